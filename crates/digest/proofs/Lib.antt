@@ -1,0 +1,5 @@
+pub mod Below
+pub mod Bytes
+pub mod Fills
+pub mod Joins
+pub mod Steps

@@ -1,0 +1,5 @@
+pub mod Words
+pub mod Padding
+pub mod Rounds
+pub mod Operations
+pub mod Md5

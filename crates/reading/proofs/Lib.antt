@@ -1,0 +1,9 @@
+pub mod Walked
+pub mod Picks
+pub mod Cuts
+pub mod Admitted
+pub mod Sizes
+pub mod Gathers
+pub mod Loops
+pub mod Meanings
+pub mod Starts
