@@ -51,10 +51,10 @@ some-twice enc dec None = refl
 some-twice enc dec (Some v) = refl
 
 -- widths
-between : (a b k : ℕ) → leb a k && leb k b ≡ true → (a ≤ k) × (k ≤ b)
+pub between : (a b k : ℕ) → leb a k && leb k b ≡ true → (a ≤ k) × (k ≤ b)
 between a b k e = let p = and-parts (leb a k) (leb k b) e in (leb-true a k (p .0), leb-true k b (p .1))
 
-exactly : (a k : ℕ) → leb a k && leb k a ≡ true → k ≡ a
+pub exactly : (a k : ℕ) → leb a k && leb k a ≡ true → k ≡ a
 exactly a k e = let p = between a a k e in let x = p .0 in let y = p .1 in omega arith
 
 wide : (a k : ℕ) → k ≡ a → leb a k && leb k a ≡ true
@@ -68,7 +68,7 @@ found-fits ((n, u) ∷ l) m v f e =
     (λ d. found-fits l m v (q .1) (sym (cond-false _ _ _ (ne-eqb m n d)) ∙ e)) (cases-eq m n)
 
 -- names
-zeros-replicate : (n : ℕ) → zeros (replicate n 0) ≡ true
+pub zeros-replicate : (n : ℕ) → zeros (replicate n 0) ≡ true
 zeros-replicate zero = refl
 zeros-replicate (suc n) = zeros-replicate n
 
@@ -314,11 +314,11 @@ kept-of k v l = λ i. record
   ; «flow_direction» = sym (opt-cond (two-at 0) (eqb 50 k) (Some v) (beside 50 l)) i }
 
 -- what holds of each number of a table
-abbrev Each : (ℕ → Type 0) → Table → Type 0
+abbrev pub Each : (ℕ → Type 0) → Table → Type 0
 Each P [] = Unit {0}
 Each P ((n, w) ∷ t) = P n × Each P t
 
-each-beside : (P : ℕ → Type 0) (t : Table) (n : ℕ) (w : ℕ × ℕ) → Each P t → beside n t ≡ Some w → P n
+pub each-beside : (P : ℕ → Type 0) (t : Table) (n : ℕ) (w : ℕ × ℕ) → Each P t → beside n t ≡ Some w → P n
 each-beside P [] n w h e = let z : _≡_ {A = ℕ} 0 1 = cc in let y : ⊥ = omega arith in absurd y
 each-beside P ((m, u) ∷ t) n w h e =
     ⊎-elim (λ i. subst P (sym i) (h .0)) (λ d. each-beside P t n w (h .1) (sym (cond-false _ _ _ (ne-eqb n m d)) ∙ e)) (cases-eq n m)

@@ -7,3 +7,8 @@ pub mod Gathers
 pub mod Loops
 pub mod Meanings
 pub mod Starts
+pub mod Again
+pub mod Lost
+pub mod Accepts
+pub mod Skips
+pub mod Bounds

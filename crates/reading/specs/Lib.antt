@@ -5,3 +5,4 @@ pub mod Readings
 pub mod Feeding
 pub mod Few
 pub mod Packets
+pub mod Laws

@@ -4,6 +4,7 @@ ghost use Prim.Native.Nat.{_≤_};
 ghost use lib.ListN.{length, take};
 ghost use Rattle.writing.specs.Outputs.{answer, output};
 ghost use Rattle.writing.specs.Requests.{attributes as «request-attributes», opening, authenticator, sealed, request};
+ghost use Rattle.writing.specs.Returns.{Returns};
 use crate::spool::write_bytes;
 use digest::digest;
 use forms::encoding::Encoding;
@@ -66,10 +67,11 @@ fn put_request(identifier: u8, attributes: &[u8], secret: &[u8; 16], out: &mut [
     put(out, at, attributes)
 }
 
-/// Writes an event as a packet of its own, with its Request Authenticator, and answers its length.
+/// Writes an event as a packet of its own, with its Request Authenticator, and answers its length. It is taken up and read back.
 pub fn write_packet(event: &Event, identifier: u8, address: &[u8; 4], secret: &[u8; 16], out: &mut [u8]) -> Result<usize, Fault>
     ensures answer { λ r. ⌜ r ≡ answer (length (now (out .entry))) (request (now (event .entry)) identifier (now (address .entry)) (now (secret .entry))) ⌝ }
     ensures bytes { λ r. ⌜ now (out .exit) ≡ output (now (out .entry)) (request (now (event .entry)) identifier (now (address .entry)) (now (secret .entry))) ⌝ }
+    ensures back { λ _. ⌜ Returns (now (event .entry)) (request (now (event .entry)) identifier (now (address .entry)) (now (secret .entry))) ⌝ }
 {
     let mut attributes = [0; 380];
     let size = put_attributes(event, address, &mut attributes);

@@ -1,9 +1,11 @@
 use Prim.Native.Nat.{_-_}
 use mathlib.Core.Path.{_≡_, refl, sym, ap, _∙_}
+use borrow.Author.Needs.{needs}
 use lib.ListN.{length, take}
 use Rattle.writing.specs.Outputs.{answer, output}
 use Rattle.writing.specs.Requests.{attributes, sealed, request}
 use Rattle.writing.proofs.Filled.{front}
+use Rattle.writing.proofs.Resent.{comes-back}
 use Rattle.writing.proofs.request.write_packet.Needs as need
 
 pub returns : need.returns
@@ -19,4 +21,5 @@ returns c =
         front m p _ (c .put-request-len .ensures .bytes ∙ ap (λ z. sealed (c .args .identifier) z (c .args .secret .now)) f) in
     record
       { answer = c .write-bytes .ensures .answer ∙ ap (answer (length (c .args .out .now))) e
-      ; bytes = c .write-bytes .ensures .bytes ∙ ap (output (c .args .out .now)) e }
+      ; bytes = c .write-bytes .ensures .bytes ∙ ap (output (c .args .out .now)) e
+      ; back = comes-back (c .args .event .now) (c .args .address .now) (search needs) (c .args .identifier) (c .args .secret .now) }
