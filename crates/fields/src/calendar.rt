@@ -37,13 +37,7 @@ fn days_in(year: u32, month: u32) -> u32
     ensures small { λ r. ⌜ r ≤ 31 ⌝ }
 {
     match month {
-        2 => {
-            if is_leap(year) {
-                29
-            } else {
-                28
-            }
-        }
+        2 => { if is_leap(year) { 29 } else { 28 } }
         4 | 6 | 9 | 11 => 30,
         _ => 31,
     }
@@ -56,14 +50,23 @@ fn is_date(bytes: &[u8]) -> bool
     let year = 100 * pair(bytes, 0) + pair(bytes, 2);
     let month = pair(bytes, 4);
     let day = pair(bytes, 6);
-    2000 <= year && year <= 2099 && 1 <= month && month <= 12 && 1 <= day && day <= days_in(year, month)
+    2000 <= year
+        && year <= 2099
+        && 1 <= month
+        && month <= 12
+        && 1 <= day
+        && day <= days_in(year, month)
 }
 
 fn is_time(bytes: &[u8]) -> bool
     requires { ⌜ length (now bytes) ≡ 18 ⌝ }
     ensures { λ r. ⌜ r ≡ timed (now (bytes .entry)) ⌝ }
 {
-    is_digits(&bytes[0..14]) && bytes[14] == b'.' && is_digits(&bytes[15..18]) && is_date(bytes) && is_clock(bytes, 8)
+    is_digits(&bytes[0..14])
+        && bytes[14] == b'.'
+        && is_digits(&bytes[15..18])
+        && is_date(bytes)
+        && is_clock(bytes, 8)
 }
 
 // The days of the first `n` years from 2000 on.
@@ -101,7 +104,9 @@ fn days_before(bytes: &[u8]) -> u32
     let year = 100 * pair(bytes, 0) + pair(bytes, 2);
     let month = pair(bytes, 4);
     let day = pair(bytes, 6);
-    days_of_years(year.saturating_sub(2000)) + days_of_months(year, month.saturating_sub(1)) + day.saturating_sub(1)
+    days_of_years(year.saturating_sub(2000))
+        + days_of_months(year, month.saturating_sub(1))
+        + day.saturating_sub(1)
 }
 
 fn time_in_milliseconds(bytes: &[u8]) -> u64

@@ -15,7 +15,13 @@ use wire::put;
 const ZEROS: [u8; 32] = [0; 32];
 
 /// Any attribute but a name.
-pub(crate) fn put_value(out: &mut [u8], at: usize, encoding: Encoding, number: u8, value: &[u8]) -> usize
+pub(crate) fn put_value(
+    out: &mut [u8],
+    at: usize,
+    encoding: Encoding,
+    number: u8,
+    value: &[u8],
+) -> usize
     requires unnamed { ⌜ eqb number 3 ≡ false ⌝ }
     requires short { ⌜ length (now value) ≤ 76 ⌝ }
     requires room { ⌜ at + 8 + length (now value) ≤ length (now out) ⌝ }
@@ -29,7 +35,11 @@ pub(crate) fn put_value(out: &mut [u8], at: usize, encoding: Encoding, number: u
         }
         Encoding::Packet => {
             let length = value.len() as u8;
-            let at = put(out, at, &[26, 8 + length, 0, 0, 17, 139, number, 2 + length]);
+            let at = put(
+                out,
+                at,
+                &[26, 8 + length, 0, 0, 17, 139, number, 2 + length],
+            );
             put(out, at, value)
         }
     }
@@ -57,7 +67,12 @@ fn put_name_bytes(out: &mut [u8], at: usize, encoding: Encoding, name: &[u8]) ->
     }
 }
 
-pub(crate) fn put_name(out: &mut [u8], at: usize, encoding: Encoding, name: &Option<EndpointName>) -> usize
+pub(crate) fn put_name(
+    out: &mut [u8],
+    at: usize,
+    encoding: Encoding,
+    name: &Option<EndpointName>,
+) -> usize
     requires { ⌜ at + 40 ≤ length (now out) ⌝ }
     ensures place { λ r. ⌜ (at ≤ r) × (r ≤ at + 40) ⌝ }
     ensures bytes { λ r. ⌜ take r (now (out .exit)) ≡ take at (now (out .entry)) ++ laid encoding 3 (opt «name-form» (now (name .entry))) ⌝ }

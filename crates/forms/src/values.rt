@@ -19,7 +19,13 @@ use message::header::Bcid;
 use wire::four_bytes;
 use wire::two_bytes;
 
-pub(crate) fn put_two(out: &mut [u8], at: usize, encoding: Encoding, number: u8, value: &Option<u16>) -> usize
+pub(crate) fn put_two(
+    out: &mut [u8],
+    at: usize,
+    encoding: Encoding,
+    number: u8,
+    value: &Option<u16>,
+) -> usize
     requires unnamed { ⌜ eqb number 3 ≡ false ⌝ }
     requires room { ⌜ at + 10 ≤ length (now out) ⌝ }
     ensures place { λ r. ⌜ (at ≤ r) × (r ≤ at + 10) ⌝ }
@@ -31,7 +37,13 @@ pub(crate) fn put_two(out: &mut [u8], at: usize, encoding: Encoding, number: u8,
     }
 }
 
-pub(crate) fn put_four(out: &mut [u8], at: usize, encoding: Encoding, number: u8, value: &Option<u32>) -> usize
+pub(crate) fn put_four(
+    out: &mut [u8],
+    at: usize,
+    encoding: Encoding,
+    number: u8,
+    value: &Option<u32>,
+) -> usize
     requires unnamed { ⌜ eqb number 3 ≡ false ⌝ }
     requires room { ⌜ at + 12 ≤ length (now out) ⌝ }
     ensures place { λ r. ⌜ (at ≤ r) × (r ≤ at + 12) ⌝ }
@@ -43,7 +55,13 @@ pub(crate) fn put_four(out: &mut [u8], at: usize, encoding: Encoding, number: u8
     }
 }
 
-pub(crate) fn put_telephone(out: &mut [u8], at: usize, encoding: Encoding, number: u8, value: &Option<TelephoneNumber>) -> usize
+pub(crate) fn put_telephone(
+    out: &mut [u8],
+    at: usize,
+    encoding: Encoding,
+    number: u8,
+    value: &Option<TelephoneNumber>,
+) -> usize
     requires unnamed { ⌜ eqb number 3 ≡ false ⌝ }
     requires room { ⌜ at + 28 ≤ length (now out) ⌝ }
     ensures place { λ r. ⌜ (at ≤ r) × (r ≤ at + 28) ⌝ }
@@ -55,7 +73,13 @@ pub(crate) fn put_telephone(out: &mut [u8], at: usize, encoding: Encoding, numbe
     }
 }
 
-pub(crate) fn put_cause(out: &mut [u8], at: usize, encoding: Encoding, number: u8, value: &Option<TerminationCause>) -> usize
+pub(crate) fn put_cause(
+    out: &mut [u8],
+    at: usize,
+    encoding: Encoding,
+    number: u8,
+    value: &Option<TerminationCause>,
+) -> usize
     requires unnamed { ⌜ eqb number 3 ≡ false ⌝ }
     requires room { ⌜ at + 14 ≤ length (now out) ⌝ }
     ensures place { λ r. ⌜ (at ≤ r) × (r ≤ at + 14) ⌝ }
@@ -67,7 +91,13 @@ pub(crate) fn put_cause(out: &mut [u8], at: usize, encoding: Encoding, number: u
     }
 }
 
-pub(crate) fn put_bcid(out: &mut [u8], at: usize, encoding: Encoding, number: u8, value: &Option<Bcid>) -> usize
+pub(crate) fn put_bcid(
+    out: &mut [u8],
+    at: usize,
+    encoding: Encoding,
+    number: u8,
+    value: &Option<Bcid>,
+) -> usize
     requires unnamed { ⌜ eqb number 3 ≡ false ⌝ }
     requires room { ⌜ at + 32 ≤ length (now out) ⌝ }
     ensures place { λ r. ⌜ (at ≤ r) × (r ≤ at + 32) ⌝ }
@@ -79,7 +109,13 @@ pub(crate) fn put_bcid(out: &mut [u8], at: usize, encoding: Encoding, number: u8
     }
 }
 
-pub(crate) fn put_adjustment(out: &mut [u8], at: usize, encoding: Encoding, number: u8, value: &Option<TimeAdjustment>) -> usize
+pub(crate) fn put_adjustment(
+    out: &mut [u8],
+    at: usize,
+    encoding: Encoding,
+    number: u8,
+    value: &Option<TimeAdjustment>,
+) -> usize
     requires unnamed { ⌜ eqb number 3 ≡ false ⌝ }
     requires room { ⌜ at + 16 ≤ length (now out) ⌝ }
     ensures place { λ r. ⌜ (at ≤ r) × (r ≤ at + 16) ⌝ }

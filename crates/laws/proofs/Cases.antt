@@ -29,13 +29,14 @@ nothing-left p = refl
 
 pub worked : Worked
 unfolding milliseconds days-before years months pair-at timed zone well-formed sound header-typed bcid-typed attributes-typed others steps event-at token-at item-at
-worked = record
-  { first-time = refl
-  ; final-time = refl
-  ; call-time = refl
-  ; leap-day = refl
-  ; no-leap-day = refl
-  ; alive = refl
-  ; alive-spool = λ e h. ap spool-meaning (sym (append-nil (form e))) ∙ reads-again Spool e 0 [] ∙ ap (after e 0) (nothing-left (0 + length (form e)))
-  ; empty-spool = refl
-  ; no-spool = refl }
+worked = record {
+  first-time = refl;
+  final-time = refl;
+  call-time = refl;
+  leap-day = refl;
+  no-leap-day = refl;
+  alive = refl;
+  alive-spool = λ e h. ap spool-meaning (sym (append-nil (form e))) ∙ reads-again Spool e 0 [] ∙ ap (after e 0) (nothing-left (0 + length (form e)));
+  empty-spool = refl;
+  no-spool = refl;
+}

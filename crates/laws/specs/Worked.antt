@@ -21,11 +21,20 @@ use Rattle.reading.specs.Events.{spool-meaning}
 
 -- the Media_Alive at another time
 abbrev pub alive-at : List ℕ → Header
-alive-at time = record
-  { «version_id» = alive-header .«version_id»; bcid = alive-header .bcid; kind = alive-header .kind; «element_type» = alive-header .«element_type»
-  ; «element_id» = alive-header .«element_id»; «time_zone» = alive-header .«time_zone»; «sequence_number» = alive-header .«sequence_number»
-  ; «event_time» = record { 0 = time }; status = alive-header .status; priority = alive-header .priority
-  ; «attribute_count» = alive-header .«attribute_count»; «event_object» = alive-header .«event_object» }
+alive-at time = record {
+  «version_id» = alive-header .«version_id»;
+  bcid = alive-header .bcid;
+  kind = alive-header .kind;
+  «element_type» = alive-header .«element_type»;
+  «element_id» = alive-header .«element_id»;
+  «time_zone» = alive-header .«time_zone»;
+  «sequence_number» = alive-header .«sequence_number»;
+  «event_time» = record { 0 = time };
+  status = alive-header .status;
+  priority = alive-header .priority;
+  «attribute_count» = alive-header .«attribute_count»;
+  «event_object» = alive-header .«event_object»;
+}
 
 pub record Worked : Type 0 where
   -- milliseconds since 2000

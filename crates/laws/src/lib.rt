@@ -1,11 +1,18 @@
 //! Laws about the definitions, each stated in the contract of a function that does nothing else.
 ghost use Rattle.message.specs.declared.event.Event.{Event};
-ghost use Rattle.reading.specs.Laws.{«Form-tells», «Any-order», «Check-alone», Lengths};
+ghost use Rattle.reading.specs.Laws.{«Form-tells», «Order-tells», «Any-order», «Check-alone», Lengths};
 ghost use Rattle.laws.specs.Worked.{Worked};
 
 /// Two events with the same spool form are the same.
 pub fn form_tells() -> u8
     ensures { λ _. ⌜ «Form-tells» ⌝ }
+{
+    0
+}
+
+/// The order of events tells any two apart.
+pub fn order_tells() -> u8
+    ensures { λ _. ⌜ «Order-tells» ⌝ }
 {
     0
 }

@@ -47,9 +47,11 @@ not-sound h a e = and-right _ (complete (h .kind) a) e
 
 -- events with equal fields are equal
 pub event-same : (e f : Event) → e .header ≡ f .header → e .attributes ≡ f .attributes → e ≡ f
-event-same e f p q = λ i. record
-  { header = p i; attributes = q i
-  ; sound = isProp→PathP (λ j. sound (p j) (q j) ≡ true) (λ j. Bool-set (sound (p j) (q j)) true) (e .sound) (f .sound) i }
+event-same e f p q = λ i. record {
+  header = p i;
+  attributes = q i;
+  sound = isProp→PathP (λ j. sound (p j) (q j) ≡ true) (λ j. Bool-set (sound (p j) (q j)) true) (e .sound) (f .sound) i;
+}
 
 pub tested-true : {A : Type 0} (b : Bool) (f : b ≡ true → A) (x : A) (h : b ≡ true) → tested b f x ≡ f h
 tested-true true f x h = ap f (Bool-set true true _ h)

@@ -98,7 +98,7 @@ add ((m, w) ∷ t) l n u v f e h s =
     let q = and-parts (below m t) (falling t) (p .1) in
     ⊎-elim (λ i. subst (λ x. Sub ((x, w) ∷ t) ((n, v) ∷ l)) i (add-same n w v h (subst (λ x. Sub ((x, w) ∷ t) l) (sym i) s)))
     (λ d. let e′ = sym (cond-false _ _ _ (ne-eqb n m d)) ∙ e in
-          add-under n m w v (below-known t n m u (q .0) e′) h (add t l n u v (q .1) e′ h) s) (cases-eq n m)
+    add-under n m w v (below-known t n m u (q .0) e′) h (add t l n u v (q .1) e′ h) s) (cases-eq n m)
 
 -- the attributes that are there fall, and hold what is there
 abbrev pub falls : List Attribute → Bool

@@ -241,19 +241,20 @@ unfolding others
 attributes-again a e =
     let t = attributes-parts a e in
     let at : (k : ℕ) (w : ℕ × ℕ) → beside k widths ≡ Some w → beside k (present widths (λ n. value n a)) ≡ value k a = λ k w h. beside-present widths (λ n. value n a) k w widths-fall h in
-    λ i. record
-      { «endpoint_name» = (ap (opt name-of) (at 3 (1, 32) refl) ∙ opt-back name-form name-of name-typed _ (t .t3) name-again) i
-      ; «calling_party_number» = (ap (opt telephone-of) (at 4 (20, 20) refl) ∙ opt-back (λ x. x .0) telephone-of telephone-typed _ (t .t4) (λ x p. refl)) i
-      ; «called_party_number» = (ap (opt telephone-of) (at 5 (20, 20) refl) ∙ opt-back (λ x. x .0) telephone-of telephone-typed _ (t .t5) (λ x p. refl)) i
-      ; «termination_cause» = (ap (opt cause-of) (at 11 (6, 6) refl) ∙ opt-back cause-form cause-of cause-typed _ (t .t11) cause-again) i
-      ; «related_call» = (ap (opt (bcid-at 0)) (at 13 (24, 24) refl) ∙ opt-back bcid-form (bcid-at 0) bcid-typed _ (t .t13) bcid-again) i
-      ; «charge_number» = (ap (opt telephone-of) (at 16 (20, 20) refl) ∙ opt-back (λ x. x .0) telephone-of telephone-typed _ (t .t16) (λ x p. refl)) i
-      ; «routing_number» = (ap (opt telephone-of) (at 25 (20, 20) refl) ∙ opt-back (λ x. x .0) telephone-of telephone-typed _ (t .t25) (λ x p. refl)) i
-      ; «udp_port» = (ap (opt (four-at 0)) (at 26 (4, 4) refl) ∙ opt-back four (four-at 0) (λ n. ltb n 4294967296) _ (t .t26) four-again) i
-      ; «service_flow» = (ap (opt (four-at 0)) (at 30 (4, 4) refl) ∙ opt-back four (four-at 0) (λ n. ltb n 4294967296) _ (t .t30) four-again) i
-      ; direction = (ap (opt (two-at 0)) (at 37 (2, 2) refl) ∙ opt-back two (two-at 0) (λ n. ltb n 65536) _ (t .t37) two-again) i
-      ; «time_adjustment» = (ap (opt adjustment-of) (at 38 (8, 8) refl) ∙ opt-back (λ x. x .0) adjustment-of adjustment-typed _ (t .t38) (λ x p. refl)) i
-      ; «flow_direction» = (ap (opt (two-at 0)) (at 50 (2, 2) refl) ∙ opt-back two (two-at 0) (λ n. ltb n 65536) _ (t .t50) two-again) i }
+    λ i. record {
+      «endpoint_name» = (ap (opt name-of) (at 3 (1, 32) refl) ∙ opt-back name-form name-of name-typed _ (t .t3) name-again) i;
+      «calling_party_number» = (ap (opt telephone-of) (at 4 (20, 20) refl) ∙ opt-back (λ x. x .0) telephone-of telephone-typed _ (t .t4) (λ x p. refl)) i;
+      «called_party_number» = (ap (opt telephone-of) (at 5 (20, 20) refl) ∙ opt-back (λ x. x .0) telephone-of telephone-typed _ (t .t5) (λ x p. refl)) i;
+      «termination_cause» = (ap (opt cause-of) (at 11 (6, 6) refl) ∙ opt-back cause-form cause-of cause-typed _ (t .t11) cause-again) i;
+      «related_call» = (ap (opt (bcid-at 0)) (at 13 (24, 24) refl) ∙ opt-back bcid-form (bcid-at 0) bcid-typed _ (t .t13) bcid-again) i;
+      «charge_number» = (ap (opt telephone-of) (at 16 (20, 20) refl) ∙ opt-back (λ x. x .0) telephone-of telephone-typed _ (t .t16) (λ x p. refl)) i;
+      «routing_number» = (ap (opt telephone-of) (at 25 (20, 20) refl) ∙ opt-back (λ x. x .0) telephone-of telephone-typed _ (t .t25) (λ x p. refl)) i;
+      «udp_port» = (ap (opt (four-at 0)) (at 26 (4, 4) refl) ∙ opt-back four (four-at 0) (λ n. ltb n 4294967296) _ (t .t26) four-again) i;
+      «service_flow» = (ap (opt (four-at 0)) (at 30 (4, 4) refl) ∙ opt-back four (four-at 0) (λ n. ltb n 4294967296) _ (t .t30) four-again) i;
+      direction = (ap (opt (two-at 0)) (at 37 (2, 2) refl) ∙ opt-back two (two-at 0) (λ n. ltb n 65536) _ (t .t37) two-again) i;
+      «time_adjustment» = (ap (opt adjustment-of) (at 38 (8, 8) refl) ∙ opt-back (λ x. x .0) adjustment-of adjustment-typed _ (t .t38) (λ x p. refl)) i;
+      «flow_direction» = (ap (opt (two-at 0)) (at 50 (2, 2) refl) ∙ opt-back two (two-at 0) (λ n. ltb n 65536) _ (t .t50) two-again) i;
+    }
 
 -- attributes, read and written again
 pub others-of : (l : List Attribute) → all fits l ≡ true → ((n : ℕ) (v : List ℕ) → beside n l ≡ Some v → Octets v) → others (attributes-of l) ≡ present widths (λ n. beside n l)
@@ -292,26 +293,27 @@ others-count l =
     let m : Bool → ℕ → ℕ = λ b k. cond b (suc k) k in
     length-present widths (λ n. value n (attributes-of l))
     ∙ (λ i. m (some-twice two (two-at 0) (beside 50 l) i) (m (some-twice (λ x. x .0) adjustment-of (beside 38 l) i) (m (some-twice two (two-at 0) (beside 37 l) i)
-        (m (some-twice four (four-at 0) (beside 30 l) i) (m (some-twice four (four-at 0) (beside 26 l) i) (m (some-twice (λ x. x .0) telephone-of (beside 25 l) i)
-        (m (some-twice (λ x. x .0) telephone-of (beside 16 l) i) (m (some-twice bcid-form (bcid-at 0) (beside 13 l) i) (m (some-twice cause-form cause-of (beside 11 l) i)
-        (m (some-twice (λ x. x .0) telephone-of (beside 5 l) i) (m (some-twice (λ x. x .0) telephone-of (beside 4 l) i) (m (some-twice name-form name-of (beside 3 l) i) 0))))))))))))
+    (m (some-twice four (four-at 0) (beside 30 l) i) (m (some-twice four (four-at 0) (beside 26 l) i) (m (some-twice (λ x. x .0) telephone-of (beside 25 l) i)
+    (m (some-twice (λ x. x .0) telephone-of (beside 16 l) i) (m (some-twice bcid-form (bcid-at 0) (beside 13 l) i) (m (some-twice cause-form cause-of (beside 11 l) i)
+    (m (some-twice (λ x. x .0) telephone-of (beside 5 l) i) (m (some-twice (λ x. x .0) telephone-of (beside 4 l) i) (m (some-twice name-form name-of (beside 3 l) i) 0))))))))))))
     ∙ sym (length-present widths (λ n. beside n l))
 
 -- one more value kept
 pub kept-of : (k : ℕ) (v : List ℕ) (l : List Attribute) → kept k v (attributes-of l) ≡ attributes-of ((k, v) ∷ l)
-kept-of k v l = λ i. record
-  { «endpoint_name» = sym (opt-cond name-of (eqb 3 k) (Some v) (beside 3 l)) i
-  ; «calling_party_number» = sym (opt-cond telephone-of (eqb 4 k) (Some v) (beside 4 l)) i
-  ; «called_party_number» = sym (opt-cond telephone-of (eqb 5 k) (Some v) (beside 5 l)) i
-  ; «termination_cause» = sym (opt-cond cause-of (eqb 11 k) (Some v) (beside 11 l)) i
-  ; «related_call» = sym (opt-cond (bcid-at 0) (eqb 13 k) (Some v) (beside 13 l)) i
-  ; «charge_number» = sym (opt-cond telephone-of (eqb 16 k) (Some v) (beside 16 l)) i
-  ; «routing_number» = sym (opt-cond telephone-of (eqb 25 k) (Some v) (beside 25 l)) i
-  ; «udp_port» = sym (opt-cond (four-at 0) (eqb 26 k) (Some v) (beside 26 l)) i
-  ; «service_flow» = sym (opt-cond (four-at 0) (eqb 30 k) (Some v) (beside 30 l)) i
-  ; direction = sym (opt-cond (two-at 0) (eqb 37 k) (Some v) (beside 37 l)) i
-  ; «time_adjustment» = sym (opt-cond adjustment-of (eqb 38 k) (Some v) (beside 38 l)) i
-  ; «flow_direction» = sym (opt-cond (two-at 0) (eqb 50 k) (Some v) (beside 50 l)) i }
+kept-of k v l = λ i. record {
+  «endpoint_name» = sym (opt-cond name-of (eqb 3 k) (Some v) (beside 3 l)) i;
+  «calling_party_number» = sym (opt-cond telephone-of (eqb 4 k) (Some v) (beside 4 l)) i;
+  «called_party_number» = sym (opt-cond telephone-of (eqb 5 k) (Some v) (beside 5 l)) i;
+  «termination_cause» = sym (opt-cond cause-of (eqb 11 k) (Some v) (beside 11 l)) i;
+  «related_call» = sym (opt-cond (bcid-at 0) (eqb 13 k) (Some v) (beside 13 l)) i;
+  «charge_number» = sym (opt-cond telephone-of (eqb 16 k) (Some v) (beside 16 l)) i;
+  «routing_number» = sym (opt-cond telephone-of (eqb 25 k) (Some v) (beside 25 l)) i;
+  «udp_port» = sym (opt-cond (four-at 0) (eqb 26 k) (Some v) (beside 26 l)) i;
+  «service_flow» = sym (opt-cond (four-at 0) (eqb 30 k) (Some v) (beside 30 l)) i;
+  direction = sym (opt-cond (two-at 0) (eqb 37 k) (Some v) (beside 37 l)) i;
+  «time_adjustment» = sym (opt-cond adjustment-of (eqb 38 k) (Some v) (beside 38 l)) i;
+  «flow_direction» = sym (opt-cond (two-at 0) (eqb 50 k) (Some v) (beside 50 l)) i;
+}
 
 -- what holds of each number of a table
 abbrev pub Each : (ℕ → Type 0) → Table → Type 0
@@ -326,17 +328,40 @@ each-beside P ((m, u) ∷ t) n w h e =
 -- a number was kept exactly where its value was met
 pub kept-met : (l : List Attribute) (n : ℕ) (w : ℕ × ℕ) → beside n widths ≡ Some w → isSome (value n (attributes-of l)) ≡ isSome (beside n l)
 kept-met l n w e =
-    each-beside (λ k. isSome (value k (attributes-of l)) ≡ isSome (beside k l)) widths n w
-    (some-twice two (two-at 0) (beside 50 l),
-    (some-twice (λ x. x .0) adjustment-of (beside 38 l),
-    (some-twice two (two-at 0) (beside 37 l),
-    (some-twice four (four-at 0) (beside 30 l),
-    (some-twice four (four-at 0) (beside 26 l),
-    (some-twice (λ x. x .0) telephone-of (beside 25 l),
-    (some-twice (λ x. x .0) telephone-of (beside 16 l),
-    (some-twice bcid-form (bcid-at 0) (beside 13 l),
-    (some-twice cause-form cause-of (beside 11 l),
-    (some-twice (λ x. x .0) telephone-of (beside 5 l),
-    (some-twice (λ x. x .0) telephone-of (beside 4 l),
-    (some-twice name-form name-of (beside 3 l),
-    tt)))))))))))) e
+    each-beside (λ k. isSome (value k (attributes-of l)) ≡ isSome (beside k l)) widths n w (
+      some-twice two (two-at 0) (beside 50 l),
+      (
+        some-twice (λ x. x .0) adjustment-of (beside 38 l),
+        (
+          some-twice two (two-at 0) (beside 37 l),
+          (
+            some-twice four (four-at 0) (beside 30 l),
+            (
+              some-twice four (four-at 0) (beside 26 l),
+              (
+                some-twice (λ x. x .0) telephone-of (beside 25 l),
+                (
+                  some-twice (λ x. x .0) telephone-of (beside 16 l),
+                  (
+                    some-twice bcid-form (bcid-at 0) (beside 13 l),
+                    (
+                      some-twice cause-form cause-of (beside 11 l),
+                      (
+                        some-twice (λ x. x .0) telephone-of (beside 5 l),
+                        (
+                          some-twice (λ x. x .0) telephone-of (beside 4 l),
+                          (
+                            some-twice name-form name-of (beside 3 l),
+                            tt,
+                          ),
+                        ),
+                      ),
+                    ),
+                  ),
+                ),
+              ),
+            ),
+          ),
+        ),
+      ),
+    ) e

@@ -87,10 +87,20 @@ header-parts h e =
     let q3 = and-parts _ (ltb (h .«element_type») 65536) (q4 .0) in
     let q2 = and-parts _ (ltb (h .kind) 65536) (q3 .0) in
     let q1 = and-parts (ltb (h .«version_id») 65536) (bcid-typed (h .bcid)) (q2 .0) in
-    record
-      { version-id = ltb-true _ _ (q1 .0); bcid = q1 .1; kind = ltb-true _ _ (q2 .1); element-type = ltb-true _ _ (q3 .1); element-id = eqb-true _ _ (q4 .1)
-      ; time-zone = eqb-true _ _ (q5 .1); sequence-number = ltb-true _ _ (q6 .1); event-time = eqb-true _ _ (q7 .1); status = ltb-true _ _ (q8 .1)
-      ; priority = ltb-true _ _ (q9 .1); attribute-count = ltb-true _ _ (q10 .1); event-object = ltb-true _ _ (q11 .1) }
+    record {
+      version-id = ltb-true _ _ (q1 .0);
+      bcid = q1 .1;
+      kind = ltb-true _ _ (q2 .1);
+      element-type = ltb-true _ _ (q3 .1);
+      element-id = eqb-true _ _ (q4 .1);
+      time-zone = eqb-true _ _ (q5 .1);
+      sequence-number = ltb-true _ _ (q6 .1);
+      event-time = eqb-true _ _ (q7 .1);
+      status = ltb-true _ _ (q8 .1);
+      priority = ltb-true _ _ (q9 .1);
+      attribute-count = ltb-true _ _ (q10 .1);
+      event-object = ltb-true _ _ (q11 .1);
+    }
 
 byte-small : (i : ℕ) (b : List ℕ) → byte-at i b < 256
 byte-small i b = omega arith
@@ -107,9 +117,9 @@ module _ (b : List ℕ) (n : length b ≡ 76) where
   unfolding header-typed
   header-of-typed =
       and-from _ _ (and-from _ _ (and-from _ _ (and-from _ _ (and-from _ _ (and-from _ _ (and-from _ _ (and-from _ _ (and-from _ _ (and-from _ _ (and-from _ _
-        (lt-ltb _ _ (two-small 0 b)) (bcid-at-typed b 2 (inside 2 24 (lit≤ tt)))) (lt-ltb _ _ (two-small 26 b))) (lt-ltb _ _ (two-small 28 b)))
-        (eq-eqb _ _ (long 30 8 (lit≤ tt)))) (eq-eqb _ _ (long 38 8 (lit≤ tt)))) (lt-ltb _ _ (four-small 46 b))) (eq-eqb _ _ (long 50 18 (lit≤ tt))))
-        (lt-ltb _ _ (four-small 68 b))) (lt-ltb _ _ (byte-small 72 b))) (lt-ltb _ _ (two-small 73 b))) (lt-ltb _ _ (byte-small 75 b))
+      (lt-ltb _ _ (two-small 0 b)) (bcid-at-typed b 2 (inside 2 24 (lit≤ tt)))) (lt-ltb _ _ (two-small 26 b))) (lt-ltb _ _ (two-small 28 b)))
+      (eq-eqb _ _ (long 30 8 (lit≤ tt)))) (eq-eqb _ _ (long 38 8 (lit≤ tt)))) (lt-ltb _ _ (four-small 46 b))) (eq-eqb _ _ (long 50 18 (lit≤ tt))))
+      (lt-ltb _ _ (four-small 68 b))) (lt-ltb _ _ (byte-small 72 b))) (lt-ltb _ _ (two-small 73 b))) (lt-ltb _ _ (byte-small 75 b))
 
   whole :
       part-of 0 2 b ++ part-of 2 24 b ++ part-of 26 2 b ++ part-of 28 2 b ++ part-of 30 8 b ++ part-of 38 8 b
@@ -185,7 +195,17 @@ header-again h v =
     let e72 = one-back b 72 (h .priority) (in-b 72 1 (lit≤ tt)) (t .priority) (p72 .1) in
     let e73 = two-back b 73 (h .«attribute_count») (in-b 73 2 (lit≤ tt)) (t .attribute-count) (p73 .1) in
     let e75 = one-back b 75 (h .«event_object») (in-b 75 1 (lit≤ tt)) (t .event-object) (p75 .1) in
-    λ i. record
-      { «version_id» = e0 i; bcid = e2 i; kind = e26 i; «element_type» = e28 i; «element_id» = record { 0 = sym (p30 .1) i }
-      ; «time_zone» = record { 0 = sym (p38 .1) i }; «sequence_number» = record { 0 = e46 i }; «event_time» = record { 0 = sym (p50 .1) i }
-      ; status = e68 i; priority = e72 i; «attribute_count» = e73 i; «event_object» = e75 i }
+    λ i. record {
+      «version_id» = e0 i;
+      bcid = e2 i;
+      kind = e26 i;
+      «element_type» = e28 i;
+      «element_id» = record { 0 = sym (p30 .1) i };
+      «time_zone» = record { 0 = sym (p38 .1) i };
+      «sequence_number» = record { 0 = e46 i };
+      «event_time» = record { 0 = sym (p50 .1) i };
+      status = e68 i;
+      priority = e72 i;
+      «attribute_count» = e73 i;
+      «event_object» = e75 i;
+    }

@@ -22,7 +22,7 @@ event-of h a ok = record { header = h; attributes = a; sound = ok }
 abbrev pub checked : ℕ → Header → Attributes → Result Event Fault
 checked p h a =
     cond (listed (h .kind))
-        (cond (well-formed h)
-            (tested (sound h a) (λ ok. Ok (event-of h a ok)) (Err (MandatoryMissing p)))
-            (Err (HeaderForm p)))
-        (Err (UnknownKind p))
+    (cond (well-formed h)
+    (tested (sound h a) (λ ok. Ok (event-of h a ok)) (Err (MandatoryMissing p)))
+    (Err (HeaderForm p)))
+    (Err (UnknownKind p))

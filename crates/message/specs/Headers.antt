@@ -18,15 +18,28 @@ header-form h =
 
 -- the BCID that stands at i
 abbrev pub bcid-at : ℕ → List ℕ → Bcid
-bcid-at i b = record
-  { timestamp = four-at i b; «element_id» = record { 0 = part-of (i + 4) 8 b }; «time_zone» = record { 0 = part-of (i + 12) 8 b }
-  ; «event_counter» = record { 0 = four-at (i + 20) b } }
+bcid-at i b = record {
+  timestamp = four-at i b;
+  «element_id» = record { 0 = part-of (i + 4) 8 b };
+  «time_zone» = record { 0 = part-of (i + 12) 8 b };
+  «event_counter» = record { 0 = four-at (i + 20) b };
+}
 
 abbrev pub header-of : List ℕ → Header
-header-of b = record
-  { «version_id» = two-at 0 b; bcid = bcid-at 2 b; kind = two-at 26 b; «element_type» = two-at 28 b; «element_id» = record { 0 = part-of 30 8 b }
-  ; «time_zone» = record { 0 = part-of 38 8 b }; «sequence_number» = record { 0 = four-at 46 b }; «event_time» = record { 0 = part-of 50 18 b }
-  ; status = four-at 68 b; priority = byte-at 72 b; «attribute_count» = two-at 73 b; «event_object» = byte-at 75 b }
+header-of b = record {
+  «version_id» = two-at 0 b;
+  bcid = bcid-at 2 b;
+  kind = two-at 26 b;
+  «element_type» = two-at 28 b;
+  «element_id» = record { 0 = part-of 30 8 b };
+  «time_zone» = record { 0 = part-of 38 8 b };
+  «sequence_number» = record { 0 = four-at 46 b };
+  «event_time» = record { 0 = part-of 50 18 b };
+  status = four-at 68 b;
+  priority = byte-at 72 b;
+  «attribute_count» = two-at 73 b;
+  «event_object» = byte-at 75 b;
+}
 
 -- that the numbers fit their widths, and the texts have their lengths
 unfoldable pub bcid-typed : Bcid → Bool

@@ -88,19 +88,20 @@ value n a =
 
 -- the attributes that some values make
 abbrev pub attributes-of : List Attribute → Attributes
-attributes-of l = record
-  { «endpoint_name» = opt name-of (beside 3 l)
-  ; «calling_party_number» = opt telephone-of (beside 4 l)
-  ; «called_party_number» = opt telephone-of (beside 5 l)
-  ; «termination_cause» = opt cause-of (beside 11 l)
-  ; «related_call» = opt (bcid-at 0) (beside 13 l)
-  ; «charge_number» = opt telephone-of (beside 16 l)
-  ; «routing_number» = opt telephone-of (beside 25 l)
-  ; «udp_port» = opt (four-at 0) (beside 26 l)
-  ; «service_flow» = opt (four-at 0) (beside 30 l)
-  ; direction = opt (two-at 0) (beside 37 l)
-  ; «time_adjustment» = opt adjustment-of (beside 38 l)
-  ; «flow_direction» = opt (two-at 0) (beside 50 l) }
+attributes-of l = record {
+  «endpoint_name» = opt name-of (beside 3 l);
+  «calling_party_number» = opt telephone-of (beside 4 l);
+  «called_party_number» = opt telephone-of (beside 5 l);
+  «termination_cause» = opt cause-of (beside 11 l);
+  «related_call» = opt (bcid-at 0) (beside 13 l);
+  «charge_number» = opt telephone-of (beside 16 l);
+  «routing_number» = opt telephone-of (beside 25 l);
+  «udp_port» = opt (four-at 0) (beside 26 l);
+  «service_flow» = opt (four-at 0) (beside 30 l);
+  direction = opt (two-at 0) (beside 37 l);
+  «time_adjustment» = opt adjustment-of (beside 38 l);
+  «flow_direction» = opt (two-at 0) (beside 50 l);
+}
 
 -- that the numbers fit their widths, and the texts have their lengths
 unfoldable pub attributes-typed : Attributes → Bool
@@ -129,19 +130,20 @@ last ((n, v) ∷ l) = n
 
 -- some attributes, when one more value was kept
 abbrev pub kept : ℕ → List ℕ → Attributes → Attributes
-kept k v a = record
-  { «endpoint_name» = cond (eqb 3 k) (Some (name-of v)) (a .«endpoint_name»)
-  ; «calling_party_number» = cond (eqb 4 k) (Some (telephone-of v)) (a .«calling_party_number»)
-  ; «called_party_number» = cond (eqb 5 k) (Some (telephone-of v)) (a .«called_party_number»)
-  ; «termination_cause» = cond (eqb 11 k) (Some (cause-of v)) (a .«termination_cause»)
-  ; «related_call» = cond (eqb 13 k) (Some (bcid-at 0 v)) (a .«related_call»)
-  ; «charge_number» = cond (eqb 16 k) (Some (telephone-of v)) (a .«charge_number»)
-  ; «routing_number» = cond (eqb 25 k) (Some (telephone-of v)) (a .«routing_number»)
-  ; «udp_port» = cond (eqb 26 k) (Some (four-at 0 v)) (a .«udp_port»)
-  ; «service_flow» = cond (eqb 30 k) (Some (four-at 0 v)) (a .«service_flow»)
-  ; direction = cond (eqb 37 k) (Some (two-at 0 v)) (a .direction)
-  ; «time_adjustment» = cond (eqb 38 k) (Some (adjustment-of v)) (a .«time_adjustment»)
-  ; «flow_direction» = cond (eqb 50 k) (Some (two-at 0 v)) (a .«flow_direction») }
+kept k v a = record {
+  «endpoint_name» = cond (eqb 3 k) (Some (name-of v)) (a .«endpoint_name»);
+  «calling_party_number» = cond (eqb 4 k) (Some (telephone-of v)) (a .«calling_party_number»);
+  «called_party_number» = cond (eqb 5 k) (Some (telephone-of v)) (a .«called_party_number»);
+  «termination_cause» = cond (eqb 11 k) (Some (cause-of v)) (a .«termination_cause»);
+  «related_call» = cond (eqb 13 k) (Some (bcid-at 0 v)) (a .«related_call»);
+  «charge_number» = cond (eqb 16 k) (Some (telephone-of v)) (a .«charge_number»);
+  «routing_number» = cond (eqb 25 k) (Some (telephone-of v)) (a .«routing_number»);
+  «udp_port» = cond (eqb 26 k) (Some (four-at 0 v)) (a .«udp_port»);
+  «service_flow» = cond (eqb 30 k) (Some (four-at 0 v)) (a .«service_flow»);
+  direction = cond (eqb 37 k) (Some (two-at 0 v)) (a .direction);
+  «time_adjustment» = cond (eqb 38 k) (Some (adjustment-of v)) (a .«time_adjustment»);
+  «flow_direction» = cond (eqb 50 k) (Some (two-at 0 v)) (a .«flow_direction»);
+}
 
 -- a clock's adjustment: eight bytes, big-endian, in two's complement
 abbrev pub adjustment-value : TimeAdjustment → ℤ

@@ -22,7 +22,7 @@ fn is_element_type(n: u16) -> bool
 
 impl Header {
     /// Whether its fields have the forms that they must have.
-    pub fn is_well_formed(&self) -> bool
+    fn is_well_formed(&self) -> bool
         ensures { λ r. ⌜ r ≡ «well-formed» (now (self .entry)) ⌝ }
     {
         is_element_type(self.element_type)

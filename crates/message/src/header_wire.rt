@@ -20,7 +20,7 @@ use wire::two_bytes;
 
 impl Bcid {
     /// The BCID in the 24 bytes from `at` on.
-    pub fn read(bytes: &[u8], at: usize) -> Bcid
+    pub(crate) fn read(bytes: &[u8], at: usize) -> Bcid
         requires { ⌜ at + 24 ≤ length (now bytes) ⌝ }
         ensures { λ r. ⌜ r ≡ «bcid-at» at (now (bytes .entry)) ⌝ }
     {
@@ -33,7 +33,7 @@ impl Bcid {
     }
 
     /// Lays its 24 bytes down from `at` on.
-    pub fn put(&self, out: &mut [u8], at: usize) -> usize
+    fn put(&self, out: &mut [u8], at: usize) -> usize
         requires { ⌜ at + 24 ≤ length (now out) ⌝ }
         ensures place { λ r. ⌜ r ≡ at + 24 ⌝ }
         ensures bytes { λ r. ⌜ take r (now (out .exit)) ≡ take at (now (out .entry)) ++ «bcid-form» (now (self .entry)) ⌝ }

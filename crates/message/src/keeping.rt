@@ -23,7 +23,10 @@ impl TerminationCause {
         requires { ⌜ length (now bytes) ≡ 6 ⌝ }
         ensures { λ r. ⌜ r ≡ «cause-of» (now (bytes .entry)) ⌝ }
     {
-        TerminationCause { source_document: two_at(bytes, 0), cause_code: four_at(bytes, 2) }
+        TerminationCause {
+            source_document: two_at(bytes, 0),
+            cause_code: four_at(bytes, 2),
+        }
     }
 
     /// Its six bytes.

@@ -7,14 +7,17 @@ use crate::attributes::EndpointName;
 
 impl EndpointName {
     /// The name in some bytes.
-    pub fn read(bytes: &[u8]) -> EndpointName
+    pub(crate) fn read(bytes: &[u8]) -> EndpointName
         requires { ⌜ length (now bytes) ≤ 32 ⌝ }
         ensures { λ r. ⌜ r ≡ «name-of» (now (bytes .entry)) ⌝ }
     {
         let length = bytes.len();
         let mut text = [0; 32];
         text[0..length].copy_from_slice(bytes);
-        EndpointName { length: length as u8, text }
+        EndpointName {
+            length: length as u8,
+            text,
+        }
     }
 
     /// The name without the zeros behind it.

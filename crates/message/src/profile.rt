@@ -8,7 +8,7 @@ use crate::attributes::Attributes;
 use refusal::Fault;
 
 /// Whether the profile has a kind of event.
-pub fn is_listed(kind: u16) -> bool
+pub(crate) fn is_listed(kind: u16) -> bool
     ensures { λ r. ⌜ r ≡ listed kind ⌝ }
 {
     match kind {
@@ -18,7 +18,7 @@ pub fn is_listed(kind: u16) -> bool
 }
 
 /// That an event of a kind, whose header stands at `at`, has what it must have.
-pub fn has_mandatory(kind: u16, a: &Attributes, at: usize) -> Result<(), Fault>
+pub(crate) fn has_mandatory(kind: u16, a: &Attributes, at: usize) -> Result<(), Fault>
     ensures { λ r. ⌜ Cases r (λ _. complete kind (now (a .entry)) ≡ true) (λ f. (complete kind (now (a .entry)) ≡ false) × (f ≡ MandatoryMissing at)) ⌝ }
 {
     let missing = Fault::MandatoryMissing { at };

@@ -20,7 +20,7 @@ pub starts : (bytes : List ℕ) (p : ℕ) → (p ≡ 20) ⊎ ((p ≡ length byte
 starts bytes p h =
     ⊎-elim (λ e. ap (λ z. from Packet z (drop z bytes)) e)
     (λ k. let a : length bytes ≤ p = let e = k .0 in omega arith in
-          ap (from Packet p) (drop-all p bytes a) ∙ nothing p 20 ∙ ap (from Packet 20) (sym (drop-all 20 bytes (k .1)))) h
+    ap (from Packet p) (drop-all p bytes a) ∙ nothing p 20 ∙ ap (from Packet 20) (sym (drop-all 20 bytes (k .1)))) h
 
 pub start-place : (n p : ℕ) → p ≡ min n 20 → (p ≡ 20) ⊎ ((p ≡ n) × (n ≤ 20))
 start-place n p e = ⊎-elim (λ h. inr (omega arith, omega arith)) (λ h. inl (omega arith)) (cases-lt n 20)

@@ -74,7 +74,7 @@ module _ (bytes : List ℕ) (at : ℕ) where
         let e : at + s - (at + 2) ≡ s - 2 = omega arith in
         let f : at + s ≡ at + 2 + (s - 2) = omega arith in
         sym (opened ∙ cond-false _ _ _ (or-false _ _ (le-ltb s 2 k) (le-ltb _ s m))
-            ∙ (λ i. sorted at t (take (sym e i) (drop (at + 2) bytes)) (at + s) ((drop-drop (s - 2) (at + 2) bytes ∙ ap (λ z. drop z bytes) (sym f)) i)))
+        ∙ (λ i. sorted at t (take (sym e i) (drop (at + 2) bytes)) (at + s) ((drop-drop (s - 2) (at + 2) bytes ∙ ap (λ z. drop z bytes) (sym f)) i)))
 
 -- what is known of the place behind an attribute
 pub same-view : (bytes : List ℕ) (q : ℕ) (r : Result (Option Attribute) Fault) → behind q r → viewed (drop (next-place r) bytes) r ≡ viewed (drop q bytes) r

@@ -15,8 +15,8 @@ unfoldable pub taken : List ℕ → Result (List ℕ) Fault
 taken bs =
     cond (ltb (length bs) 20 || ltb 4095 (length bs)) (Err PacketSize)
     (cond (eqb (getD bs 0 0) 4)
-        (cond (ltb (two-at 2 bs) 20 || ltb (length bs) (two-at 2 bs)) (Err PacketLength) (Ok (take (two-at 2 bs) bs)))
-        (Err PacketCode))
+    (cond (ltb (two-at 2 bs) 20 || ltb (length bs) (two-at 2 bs)) (Err PacketLength) (Ok (take (two-at 2 bs) bs)))
+    (Err PacketCode))
 
 -- the bytes that a packet taken up holds
 abbrev pub held-packet : Result TakenUp Fault → Result (List ℕ) Fault

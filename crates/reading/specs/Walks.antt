@@ -27,8 +27,8 @@ unfoldable pub vendor-in : ℕ → List ℕ → ℕ → List ℕ → Walked
 vendor-in p v q rest =
     cond (ltb (length v) 4) (wrong (MalformedAttribute p))
     (cond (eqb (four-at 0 v) 4491)
-        (cond (ltb (length v) 6 || not (eqb (getD v 5 0) (length v - 4))) (wrong (MalformedAttribute p)) (cable (getD v 4 0) (drop 6 v) p q rest))
-        (other 26 v p q rest))
+    (cond (ltb (length v) 6 || not (eqb (getD v 5 0) (length v - 4))) (wrong (MalformedAttribute p)) (cable (getD v 4 0) (drop 6 v) p q rest))
+    (other 26 v p q rest))
 
 abbrev pub sorted : ℕ → ℕ → List ℕ → ℕ → List ℕ → Walked
 sorted p t v q rest = cond (eqb t 26) (vendor-in p v q rest) (other t v p q rest)

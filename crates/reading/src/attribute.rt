@@ -4,7 +4,17 @@
 #[derive(Clone, Copy)]
 pub enum Attribute<'a> {
     /// A vendor attribute of CableLabs, with its own number and value.
-    CableLabs { number: u8, value: &'a [u8], at: usize, next: usize },
+    CableLabs {
+        number: u8,
+        value: &'a [u8],
+        at: usize,
+        next: usize,
+    },
     /// Any other, with its type and all that follows its length.
-    Other { kind: u8, value: &'a [u8], at: usize, next: usize },
+    Other {
+        kind: u8,
+        value: &'a [u8],
+        at: usize,
+        next: usize,
+    },
 }

@@ -1,12 +1,12 @@
 //! Events read from packets and spools.
-pub mod attribute;
-pub mod walk;
-pub mod token;
-pub mod ending;
-pub mod placed;
-mod tokens;
 mod admission;
+pub mod attribute;
+pub mod ending;
 mod events;
 pub mod feeds;
-pub mod spool;
 pub mod packet;
+pub mod placed;
+pub mod spool;
+pub mod token;
+mod tokens;
+pub mod walk;

@@ -43,7 +43,12 @@ fn item_at<'a>(bytes: &'a [u8], at: usize) -> Result<Option<Token<'a>>, Fault>
     if bytes.len() - from < size {
         return Err(Fault::CutItem { at });
     }
-    Ok(Some(Token { at, number, body: &bytes[from..from + size], next: from + size }))
+    Ok(Some(Token {
+        at,
+        number,
+        body: &bytes[from..from + size],
+        next: from + size,
+    }))
 }
 
 // The first CableLabs attribute of a packet from a place on; all others are skipped.
@@ -55,17 +60,36 @@ fn cable_at<'a>(bytes: &'a [u8], at: usize) -> Result<Option<Token<'a>>, Fault>
     let mut place = at;
     while let Some(attribute) = attribute_at(bytes, place)? {
         match attribute {
-            Attribute::CableLabs { number, value, at, next } => {
-                return Ok(Some(Token { at, number, body: value, next }));
+            Attribute::CableLabs {
+                number,
+                value,
+                at,
+                next,
+            } => {
+                return Ok(Some(Token {
+                    at,
+                    number,
+                    body: value,
+                    next,
+                }));
             }
-            Attribute::Other { kind: _, value: _, at: _, next } => place = next,
+            Attribute::Other {
+                kind: _,
+                value: _,
+                at: _,
+                next,
+            } => place = next,
         }
     }
     Ok(None)
 }
 
 /// The next attribute of an event from a place on.
-pub(crate) fn token_at<'a>(encoding: Encoding, bytes: &'a [u8], at: usize) -> Result<Option<Token<'a>>, Fault>
+pub(crate) fn token_at<'a>(
+    encoding: Encoding,
+    bytes: &'a [u8],
+    at: usize,
+) -> Result<Option<Token<'a>>, Fault>
     requires { ⌜ at ≤ length (now bytes) ⌝ }
     ensures read { λ r. ⌜ seen (now (bytes .entry)) r ≡ «token-at» encoding at (drop at (now (bytes .entry))) ⌝ }
     ensures further { λ r. ⌜ further at (length (now (bytes .entry))) r ⌝ }

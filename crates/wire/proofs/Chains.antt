@@ -20,9 +20,10 @@ join xs at i n {a = a} p q =
 -- two lists of two parts each, whose last parts are as long
 pub parted : (a b c d : List ℕ) → length b ≡ length d → a ++ b ≡ c ++ d → (a ≡ c) × (b ≡ d)
 parted a b c d h e =
-    let l : length a ≡ length c = omega (arith, length-append a b, length-append c d, ap length e) in
-    ( sym (take-at a b (length a) refl) ∙ ap (take (length a)) e ∙ take-at c d (length a) (sym l)
-    , sym (drop-at a b (length a) refl) ∙ ap (drop (length a)) e ∙ drop-at c d (length a) (sym l) )
+    let l : length a ≡ length c = omega (arith, length-append a b, length-append c d, ap length e) in (
+      sym (take-at a b (length a) refl) ∙ ap (take (length a)) e ∙ take-at c d (length a) (sym l),
+      sym (drop-at a b (length a) refl) ∙ ap (drop (length a)) e ∙ drop-at c d (length a) (sym l),
+    )
 
 pub part-long : (b : List ℕ) (i n : ℕ) → i + n ≤ length b → length (part-of i n b) ≡ n
 part-long b i n h = let k : n ≤ length (drop i b) = omega (arith, length-drop i b) in length-take-le n (drop i b) k

@@ -146,8 +146,9 @@ module _ (e : Event) (address : List ℕ) (w : length address ≡ 4) where
         let n = lengths e .packet-most in
         let p = packet-long in
         let q = attrs-long in
-        record
-          { passes = passes
-          ; events = ap (from Packet 20) after-front ∙ only-event
-          ; least = omega arith
-          ; most = omega arith }
+        record {
+          passes = passes;
+          events = ap (from Packet 20) after-front ∙ only-event;
+          least = omega arith;
+          most = omega arith;
+        }

@@ -1,3 +1,3 @@
 //! Events written as spools and as packets.
-pub mod spool;
 pub mod request;
+pub mod spool;

@@ -68,7 +68,13 @@ fn put_request(identifier: u8, attributes: &[u8], secret: &[u8; 16], out: &mut [
 }
 
 /// Writes an event as a packet of its own, with its Request Authenticator, and answers its length. It is taken up and read back.
-pub fn write_packet(event: &Event, identifier: u8, address: &[u8; 4], secret: &[u8; 16], out: &mut [u8]) -> Result<usize, Fault>
+pub fn write_packet(
+    event: &Event,
+    identifier: u8,
+    address: &[u8; 4],
+    secret: &[u8; 16],
+    out: &mut [u8],
+) -> Result<usize, Fault>
     ensures answer { λ r. ⌜ r ≡ answer (length (now (out .entry))) (request (now (event .entry)) identifier (now (address .entry)) (now (secret .entry))) ⌝ }
     ensures bytes { λ r. ⌜ now (out .exit) ≡ output (now (out .entry)) (request (now (event .entry)) identifier (now (address .entry)) (now (secret .entry))) ⌝ }
     ensures back { λ _. ⌜ Returns (now (event .entry)) (request (now (event .entry)) identifier (now (address .entry)) (now (secret .entry))) ⌝ }

@@ -18,9 +18,13 @@ impl<'a> PacketFeed<'a> {
     pub fn new(bytes: &'a [u8]) -> PacketFeed<'a>
         ensures { λ r. ⌜ from Packet (r .place) (drop (r .place) (now (r .bytes))) ≡ «packet-meaning» (now (bytes .entry)) ⌝ }
     {
-        PacketFeed { bytes, place: bytes.len().min(20) }
+        PacketFeed {
+            bytes,
+            place: bytes.len().min(20),
+        }
     }
 }
+
 pub impl<'a> Feed for PacketFeed<'a> as PacketFeedFeed {
     ghost coming = { λ s. from Packet (s .place) (drop (s .place) (now (s .bytes))) .0 };
 

@@ -25,7 +25,9 @@ impl<'a> TakenUp<'a> {
         if length < 20 || bytes.len() < length {
             return Err(Fault::PacketLength);
         }
-        Ok(TakenUp { packet: &bytes[0..length] })
+        Ok(TakenUp {
+            packet: &bytes[0..length],
+        })
     }
 
     /// Its bytes, up to its Length.

@@ -21,6 +21,7 @@ impl<'a> SpoolFeed<'a> {
         SpoolFeed { bytes, place: 0 }
     }
 }
+
 pub impl<'a> Feed for SpoolFeed<'a> as SpoolFeedFeed {
     ghost coming = { λ s. from Spool (s .place) (drop (s .place) (now (s .bytes))) .0 };
 

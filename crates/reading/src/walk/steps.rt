@@ -19,12 +19,22 @@ fn vendor<'a>(value: &'a [u8], at: usize, next: usize) -> Result<Option<Attribut
         return Err(malformed);
     }
     if four_at(value, 0) != 4491 {
-        return Ok(Some(Attribute::Other { kind: 26, value, at, next }));
+        return Ok(Some(Attribute::Other {
+            kind: 26,
+            value,
+            at,
+            next,
+        }));
     }
     if value.len() < 6 || value[5] as usize != value.len() - 4 {
         return Err(malformed);
     }
-    Ok(Some(Attribute::CableLabs { number: value[4], value: &value[6..], at, next }))
+    Ok(Some(Attribute::CableLabs {
+        number: value[4],
+        value: &value[6..],
+        at,
+        next,
+    }))
 }
 
 /// The attribute that stands at a place.
@@ -49,17 +59,32 @@ pub(crate) fn attribute_at<'a>(bytes: &'a [u8], at: usize) -> Result<Option<Attr
     if bytes[at] == 26 {
         return vendor(value, at, at + size);
     }
-    Ok(Some(Attribute::Other { kind: bytes[at], value, at, next: at + size }))
+    Ok(Some(Attribute::Other {
+        kind: bytes[at],
+        value,
+        at,
+        next: at + size,
+    }))
 }
 
 impl<'a> Attribute<'a> {
     /// The place behind it.
-    pub fn end(&self) -> usize
+    fn end(&self) -> usize
         ensures { λ r. ⌜ r ≡ «end-of» (now (self .entry)) ⌝ }
     {
         match self {
-            Attribute::CableLabs { number: _, value: _, at: _, next } => *next,
-            Attribute::Other { kind: _, value: _, at: _, next } => *next,
+            Attribute::CableLabs {
+                number: _,
+                value: _,
+                at: _,
+                next,
+            } => *next,
+            Attribute::Other {
+                kind: _,
+                value: _,
+                at: _,
+                next,
+            } => *next,
         }
     }
 }
@@ -70,7 +95,10 @@ impl<'a> Walk<'a> {
         ensures bytes { λ r. ⌜ now (r .bytes) ≡ now (packet .entry) ⌝ }
         ensures place { λ r. ⌜ r .place ≡ min (length (now (packet .entry))) 20 ⌝ }
     {
-        Walk { bytes: packet, place: packet.len().min(20) }
+        Walk {
+            bytes: packet,
+            place: packet.len().min(20),
+        }
     }
 
     /// What is left of the packet; the place never lies beyond it.

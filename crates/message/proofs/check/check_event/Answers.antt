@@ -18,10 +18,11 @@ returns-in-Break-has-mandatory c =
 pub ghost-result : need.ghost-result
 ghost-result c =
     let l : listed (c .args .header .kind) ≡ true = search needs in
-    let w : well-formed (c .args .header) ≡ true = search needs in
-    ( make-sound (c .args .header) (c .args .attributes) record
-        { header = c .pre .header; attributes = c .pre .attributes; count = c .pre .count; kind = l; formed = w; full = c .in-Continue-has-mandatory .ensures tt }
-    , tt )
+    let w : well-formed (c .args .header) ≡ true = search needs in (
+      make-sound (c .args .header) (c .args .attributes) record
+          { header = c .pre .header; attributes = c .pre .attributes; count = c .pre .count; kind = l; formed = w; full = c .in-Continue-has-mandatory .ensures tt },
+      tt,
+    )
 
 pub returns : need.returns
 returns c = sym (checked-event (c .args .at) (c .args .header) (c .args .attributes) _)

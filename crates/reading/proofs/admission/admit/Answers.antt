@@ -33,6 +33,7 @@ returns c =
     let t = c .args .token .now in
     let f = sym (c .fits-width .ensures) ∙ c .if-not-fits-width .left in
     let e = ap (λ v. within (length v) (beside (t .number) widths)) (sym (c .value-in-value .ensures)) ∙ f in
-    record
-      { read = is-fine (c .args .encoding) (t .at) (t .number) (t .body .now) (c .args .repeated) (sym (c .is-known .ensures) ∙ c .if-not-is-known .left) (c .if-number-eq1 .left) (c .value-in-value .result .now) (c .value-in-value .ensures) e (c .if-repeated .left)
-      ; fits = f }
+    record {
+      read = is-fine (c .args .encoding) (t .at) (t .number) (t .body .now) (c .args .repeated) (sym (c .is-known .ensures) ∙ c .if-not-is-known .left) (c .if-number-eq1 .left) (c .value-in-value .result .now) (c .value-in-value .ensures) e (c .if-repeated .left);
+      fits = f;
+    }

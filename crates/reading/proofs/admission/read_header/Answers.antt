@@ -23,6 +23,7 @@ returns-then-token-ne76 c =
 pub returns : need.returns
 returns c =
     let t = c .args .token .now in
-    record
-      { read = a-header (t .at) (t .number) (t .body .now) (sym (c .is-known .ensures) ∙ c .if-not-is-known .left) (c .if-token-ne1 .left) (c .read .result) (c .read .ensures) (c .if-token-ne76 .left)
-      ; typed = ap header-typed (c .read .ensures) ∙ header-of-typed (t .body .now) (c .if-token-ne76 .left) }
+    record {
+      read = a-header (t .at) (t .number) (t .body .now) (sym (c .is-known .ensures) ∙ c .if-not-is-known .left) (c .if-token-ne1 .left) (c .read .result) (c .read .ensures) (c .if-token-ne76 .left);
+      typed = ap header-typed (c .read .ensures) ∙ header-of-typed (t .body .now) (c .if-token-ne76 .left);
+    }

@@ -32,9 +32,10 @@ returns-in-CableLabs c =
     let t = c .in-CableLabs in
     let o = beyond-cable (c .loop-attribute .place) (length (c .args .bytes .now)) (c .in-Continue-attribute .field-0) (c .in-Some .attribute) (t .number) (t .value) (t .at) (t .next) (c .in-Some .is) (t .is) (c .in-Continue-attribute .ensures tt .onward) in
     let o0 = o .0 in
-    record
-      { read = finds (c .args .bytes .now) (c .loop-attribute .place) (i .2 .0) _ (omega arith) (i .2 .2) (c .in-Continue-attribute .field-0) (c .in-Some .attribute) (c .in-Some .is) (c .in-Continue-attribute .ensures tt .read) (t .number) (t .value) (t .at) (t .next) (t .is)
-      ; further = (omega arith, o .1) }
+    record {
+      read = finds (c .args .bytes .now) (c .loop-attribute .place) (i .2 .0) _ (omega arith) (i .2 .2) (c .in-Continue-attribute .field-0) (c .in-Some .attribute) (c .in-Some .is) (c .in-Continue-attribute .ensures tt .read) (t .number) (t .value) (t .at) (t .next) (t .is);
+      further = (omega arith, o .1);
+    }
 
 pub loop-attribute-less : need.loop-attribute-less
 loop-attribute-less c =
@@ -51,18 +52,22 @@ loop-attribute-again c =
     let z = i .0 in
     let t = c .in-Other in
     let o = beyond-other (c .loop-attribute .place) (length (c .args .bytes .now)) (c .in-Continue-attribute .field-0) (c .in-Some .attribute) (t .kind) (t .value) (t .at) (t .next) (c .in-Some .is) (t .is) (c .in-Continue-attribute .ensures tt .onward) in
-    let o0 = o .0 in let o1 = o .1 in
-    ( omega arith
-    , o1
-    , ( i .2 .0 - 1
-      , omega arith
-      , skips (c .args .bytes .now) (c .loop-attribute .place) (i .2 .0) _ (omega arith) (i .2 .2) (c .in-Continue-attribute .field-0) (c .in-Some .attribute) (c .in-Some .is) (c .in-Continue-attribute .ensures tt .read) (t .kind) (t .value) (t .at) (t .next) (t .is) ) )
+    let o0 = o .0 in let o1 = o .1 in (
+      omega arith,
+      o1,
+      (
+        i .2 .0 - 1,
+        omega arith,
+        skips (c .args .bytes .now) (c .loop-attribute .place) (i .2 .0) _ (omega arith) (i .2 .2) (c .in-Continue-attribute .field-0) (c .in-Some .attribute) (c .in-Some .is) (c .in-Continue-attribute .ensures tt .read) (t .kind) (t .value) (t .at) (t .next) (t .is),
+      ),
+    )
 
 pub returns : need.returns
 returns c =
     let i = c .loop-attribute .inv in
     let x = i .1 in
     let y = i .2 .1 in
-    record
-      { read = ends (c .args .bytes .now) (c .loop-attribute .place) (i .2 .0) _ (omega arith) (i .2 .2) (c .in-Continue-attribute .field-0) _ (c .in-rest .is) (c .in-Continue-attribute .ensures tt .read) (c .in-Continue-attribute .ensures tt .onward)
-      ; further = c .pre }
+    record {
+      read = ends (c .args .bytes .now) (c .loop-attribute .place) (i .2 .0) _ (omega arith) (i .2 .2) (c .in-Continue-attribute .field-0) _ (c .in-rest .is) (c .in-Continue-attribute .ensures tt .read) (c .in-Continue-attribute .ensures tt .onward);
+      further = c .pre;
+    }

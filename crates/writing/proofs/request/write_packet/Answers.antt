@@ -18,8 +18,9 @@ returns c =
     let a = attributes (c .args .event .now) (c .args .address .now) in
     let f : take (n - 0) b ≡ a = front n b a (c .put-attributes-size .ensures .bytes) in
     let e : take (m - 0) p ≡ sealed (c .args .identifier) a (c .args .secret .now) =
-        front m p _ (c .put-request-len .ensures .bytes ∙ ap (λ z. sealed (c .args .identifier) z (c .args .secret .now)) f) in
-    record
-      { answer = c .write-bytes .ensures .answer ∙ ap (answer (length (c .args .out .now))) e
-      ; bytes = c .write-bytes .ensures .bytes ∙ ap (output (c .args .out .now)) e
-      ; back = comes-back (c .args .event .now) (c .args .address .now) (search needs) (c .args .identifier) (c .args .secret .now) }
+    front m p _ (c .put-request-len .ensures .bytes ∙ ap (λ z. sealed (c .args .identifier) z (c .args .secret .now)) f) in
+    record {
+      answer = c .write-bytes .ensures .answer ∙ ap (answer (length (c .args .out .now))) e;
+      bytes = c .write-bytes .ensures .bytes ∙ ap (output (c .args .out .now)) e;
+      back = comes-back (c .args .event .now) (c .args .address .now) (search needs) (c .args .identifier) (c .args .secret .now);
+    }

@@ -33,10 +33,11 @@ returns-then-bytes-at-eq26 c =
     let h : p + 2 ≤ length b = omega arith in
     let k : 2 ≤ s = omega arith in
     let l : s ≤ length b - p = omega arith in
-    record
-      { read = same-view b (p + s) (c .vendor .result) (c .vendor .ensures .next) ∙ c .vendor .ensures .read (drop (p + s) b)
-          ∙ sym (cond-true _ _ _ (eq-eqb _ _ (c .if-bytes-at-eq26 .taken))) ∙ whole b p h k l
-      ; onward = goes-on p (length b) (p + s) (c .vendor .result) (c .vendor .ensures .next) (omega arith) (omega arith) }
+    record {
+      read = same-view b (p + s) (c .vendor .result) (c .vendor .ensures .next) ∙ c .vendor .ensures .read (drop (p + s) b)
+          ∙ sym (cond-true _ _ _ (eq-eqb _ _ (c .if-bytes-at-eq26 .taken))) ∙ whole b p h k l;
+      onward = goes-on p (length b) (p + s) (c .vendor .result) (c .vendor .ensures .next) (omega arith) (omega arith);
+    }
 
 pub returns : need.returns
 returns c =
@@ -46,6 +47,7 @@ returns c =
     let h : p + 2 ≤ length b = omega arith in
     let k : 2 ≤ s = omega arith in
     let l : s ≤ length b - p = omega arith in
-    record
-      { read = sym (cond-false _ _ _ (ne-eqb _ _ (c .if-bytes-at-eq26 .left))) ∙ whole b p h k l
-      ; onward = (omega arith, omega arith) }
+    record {
+      read = sym (cond-false _ _ _ (ne-eqb _ _ (c .if-bytes-at-eq26 .left))) ∙ whole b p h k l;
+      onward = (omega arith, omega arith);
+    }
