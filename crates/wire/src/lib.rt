@@ -45,17 +45,17 @@ pub fn four_at(bytes: &[u8], at: usize) -> u32
 }
 
 /// A number in two bytes.
-pub fn two_bytes(n: u16) -> [u8; 2]
-    ensures { λ r. ⌜ r ≡ two n ⌝ }
+pub fn two_bytes(half: u16) -> [u8; 2]
+    ensures { λ r. ⌜ r ≡ two half ⌝ }
 {
-    n.to_be_bytes()
+    half.to_be_bytes()
 }
 
 /// A number in four bytes.
-pub fn four_bytes(n: u32) -> [u8; 4]
-    ensures { λ r. ⌜ r ≡ four n ⌝ }
+pub fn four_bytes(word: u32) -> [u8; 4]
+    ensures { λ r. ⌜ r ≡ four word ⌝ }
 {
-    n.to_be_bytes()
+    word.to_be_bytes()
 }
 
 /// Lays `more` down from `at` on, and says where the next part goes.
