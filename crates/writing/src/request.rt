@@ -2,6 +2,8 @@
 ghost use mathlib.Core.Path.{_≡_};
 ghost use Prim.Native.Nat.{_≤_};
 ghost use lib.ListN.{length, take};
+ghost use Rattle.forms.specs.declared.encoding.Encoding.the-variants.{Packet};
+ghost use Rattle.reading.specs.Laws.{«Read-back»};
 ghost use Rattle.writing.specs.Outputs.{answer, output};
 ghost use Rattle.writing.specs.Requests.{attributes as «request-attributes», opening, authenticator, sealed, request};
 ghost use Rattle.writing.specs.Returns.{Returns};
@@ -67,7 +69,8 @@ fn put_request(identifier: u8, attributes: &[u8], secret: &[u8; 16], out: &mut [
     put(out, at, attributes)
 }
 
-/// Writes an event as a packet of its own, with its Request Authenticator, and answers its length. It is taken up and read back.
+/// Writes an event as a packet of its own, with its Request Authenticator, and answers its length. It is taken up and
+/// read back, and its attributes are, at every offset of any packet with anything behind them.
 pub fn write_packet(
     event: &Event,
     identifier: u8,
@@ -77,6 +80,7 @@ pub fn write_packet(
 ) -> Result<usize, Fault>
     ensures answer { λ r. ⌜ r ≡ answer (length (now (out .entry))) (request (now (event .entry)) identifier (now (address .entry)) (now (secret .entry))) ⌝ }
     ensures bytes { λ r. ⌜ now (out .exit) ≡ output (now (out .entry)) (request (now (event .entry)) identifier (now (address .entry)) (now (secret .entry))) ⌝ }
+    ensures placed { λ _. ⌜ «Read-back» Packet (now (event .entry)) ⌝ }
     ensures back { λ _. ⌜ Returns (now (event .entry)) (request (now (event .entry)) identifier (now (address .entry)) (now (secret .entry))) ⌝ }
 {
     let mut attributes = [0; 380];

@@ -4,6 +4,8 @@ use borrow.Author.Needs.{needs}
 use lib.ListN.{length, take}
 use Rattle.writing.specs.Outputs.{answer, output}
 use Rattle.writing.specs.Requests.{attributes, sealed, request}
+use Rattle.forms.specs.declared.encoding.Encoding.the-variants.{Packet}
+use Rattle.reading.proofs.Again.{reads-again}
 use Rattle.writing.proofs.Filled.{front}
 use Rattle.writing.proofs.Resent.{comes-back}
 use Rattle.writing.proofs.request.write_packet.Needs as need
@@ -22,5 +24,6 @@ returns c =
     record {
       answer = c .write-bytes .ensures .answer ∙ ap (answer (length (c .args .out .now))) e;
       bytes = c .write-bytes .ensures .bytes ∙ ap (output (c .args .out .now)) e;
+      placed = reads-again Packet (c .args .event .now);
       back = comes-back (c .args .event .now) (c .args .address .now) (search needs) (c .args .identifier) (c .args .secret .now);
     }
