@@ -97,7 +97,7 @@ fn show_values(rt: &LibcRuntime, a: &Attributes) -> io::Result<()> {
         show_value(
             rt,
             11,
-            format_args!("cause {code} of source document {document}"),
+            format_args!("Source_Document={document}, Cause_Code={code}"),
         )?;
     }
     if let Some(call) = a.related_call {
