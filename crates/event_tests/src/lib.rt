@@ -4,10 +4,11 @@ mod tests {
     use digest::digest;
     use forms::order::compare;
     use message::event::Event;
+    use packets::TakenUp;
     use reading::ending::Ending;
     use reading::ending::Handed;
     use reading::feeds::Feed;
-    use reading::packet::TakenUp;
+    use reading::packet::PacketFeed;
     use reading::packet::feed::PacketFeedFeed;
     use reading::spool::SpoolFeed;
     use reading::spool::acceptance::is_accepted;
@@ -58,7 +59,7 @@ mod tests {
         let mut place = Event::media_alive();
         match TakenUp::take_up(&out) {
             Ok(packet) => {
-                let mut feed = packet.read_out();
+                let mut feed = PacketFeed::read_out(packet);
                 match feed.next(&mut place) {
                     Handed::At(58) => check(compare(&event, &place) == Ordering::Equal),
                     _ => Err(Fail::new("no event at 58")),

@@ -25,8 +25,9 @@ use crate::sending::send;
 use crate::spooling::spool_and_compare;
 use crate::telling::show_event;
 use crate::walking::show_attributes;
+use packets::TakenUp;
 use reading::ending::Ending;
-use reading::packet::TakenUp;
+use reading::packet::PacketFeed;
 use reading::packet::feed::PacketFeedFeed;
 use std::io;
 
@@ -68,7 +69,7 @@ fn write_events(rt: &LibcRuntime, met: &[Met]) -> io::Result<()> {
 
 fn follow(rt: &LibcRuntime, packet: TakenUp) -> io::Result<()> {
     let held = packet.bytes();
-    let reading = read_all(rt.alloc(), &mut packet.read_out())?;
+    let reading = read_all(rt.alloc(), &mut PacketFeed::read_out(packet))?;
     show_front(rt, held)?;
     show_attributes(rt, held)?;
     show_reading(rt, &reading)?;

@@ -5,7 +5,8 @@ use crate::feeding::read_all;
 use crate::front::show_front;
 use crate::refused::Refused;
 use crate::refused::RefusedDisplay;
-use reading::packet::TakenUp;
+use packets::TakenUp;
+use reading::packet::PacketFeed;
 use reading::packet::feed::PacketFeedFeed;
 use std::io;
 use writing::request::write_packet;
@@ -25,7 +26,7 @@ fn receive(rt: &LibcRuntime, sent: &Met, bytes: &[u8]) -> io::Result<()> {
         Err(fault) => return println!(rt, "It is {}", Refused(fault)),
     };
     let held = packet.bytes();
-    let again = read_all(rt.alloc(), &mut packet.read_out())?;
+    let again = read_all(rt.alloc(), &mut PacketFeed::read_out(packet))?;
     show_front(rt, held)?;
     println!(rt, "It is read back.")?;
     compare_all(rt, &[*sent], &again)

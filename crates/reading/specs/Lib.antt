@@ -4,5 +4,4 @@ pub mod Events
 pub mod Readings
 pub mod Feeding
 pub mod Few
-pub mod Packets
 pub mod Laws

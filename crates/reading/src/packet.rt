@@ -6,7 +6,6 @@ ghost use Rattle.forms.specs.declared.encoding.Encoding.the-variants.{Packet};
 ghost use Rattle.reading.specs.Events.{from};
 
 pub mod feed;
-pub mod taking;
 
 /// The events from a place on, which never lies beyond the bytes.
 #[derive(Drop)]
@@ -15,9 +14,4 @@ pub struct PacketFeed<'a> {
     place: usize,
     ghost within: { place ≤ length (now bytes) },
     ghost few: { length (from Packet place (drop place (now bytes)) .0) < 2 ^ 60 },
-}
-
-/// A packet that passed the first checks. It holds the packet's bytes up to its Length, and must be spent: read out or withheld.
-pub struct TakenUp<'a> {
-    packet: &'a [u8],
 }

@@ -2,10 +2,11 @@
 use crate::told::Refused;
 use crate::told::RefusedDisplay;
 use message::event::Event;
+use packets::TakenUp;
 use reading::ending::Ending;
 use reading::ending::Handed;
 use reading::feeds::Feed;
-use reading::packet::TakenUp;
+use reading::packet::PacketFeed;
 use reading::packet::feed::PacketFeedFeed;
 use reading::spool::SpoolFeed;
 use reading::spool::feed::SpoolFeedFeed;
@@ -42,7 +43,7 @@ fn show_feed<F: Feed>(rt: &LibcRuntime, feed: &mut F) -> io::Result<()> {
 
 pub fn show_packet(rt: &LibcRuntime, bytes: &[u8]) -> io::Result<()> {
     match TakenUp::take_up(bytes) {
-        Ok(packet) => show_feed(rt, &mut packet.read_out()),
+        Ok(packet) => show_feed(rt, &mut PacketFeed::read_out(packet)),
         Err(fault) => println!(rt, "    {}", Refused(fault)),
     }
 }

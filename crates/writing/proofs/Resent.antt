@@ -24,7 +24,7 @@ use Rattle.reading.specs.declared.ending.Ending.the-variants.{End}
 use Rattle.reading.specs.Walks.{attribute-at}
 use Rattle.reading.specs.Tokens.{token-at, pick}
 use Rattle.reading.specs.Events.{event-at, steps, from, after, came, packet-meaning}
-use Rattle.reading.specs.Packets.{taken}
+use Rattle.packets.specs.Packets.{taken}
 use Rattle.reading.proofs.Again.{form-read}
 use Rattle.reading.proofs.Meanings.{from-came}
 use Rattle.reading.proofs.Skips.{event-skipped}

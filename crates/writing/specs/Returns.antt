@@ -8,7 +8,7 @@ use Rattle.std.specs.declared.result.Result.the-variants.{Ok}
 use Rattle.message.specs.declared.event.Event.{Event}
 use Rattle.reading.specs.declared.ending.Ending.the-variants.{End}
 use Rattle.reading.specs.Events.{packet-meaning}
-use Rattle.reading.specs.Packets.{taken}
+use Rattle.packets.specs.Packets.{taken}
 
 pub record Returns (e : Event) (packet : List ℕ) : Type 0 where
   -- it passes the first checks, whatever lies behind it within the greatest size

@@ -12,6 +12,7 @@ use crate::events::read_event;
 use crate::feeds::Feed;
 use forms::encoding::Encoding;
 use message::event::Event;
+use packets::TakenUp;
 
 impl<'a> PacketFeed<'a> {
     /// All events of a packet, whose attributes begin at byte 20.
@@ -22,6 +23,13 @@ impl<'a> PacketFeed<'a> {
             bytes,
             place: bytes.len().min(20),
         }
+    }
+
+    /// Spends a packet that was taken up by reading out its events.
+    pub fn read_out(packet: TakenUp<'a>) -> PacketFeed<'a>
+        ensures { λ r. ⌜ from Packet (r .place) (drop (r .place) (now (r .bytes))) ≡ «packet-meaning» (now (packet .entry .packet)) ⌝ }
+    {
+        PacketFeed::new(packet.into_bytes())
     }
 }
 

@@ -1,6 +1,6 @@
 use borrow.Author.Needs.{needs}
-use Rattle.reading.specs.Packets.{taken}
-use Rattle.reading.proofs.packet.TakenUp.take_up.Needs as need
+use Rattle.packets.specs.Packets.{taken}
+use Rattle.packets.proofs.TakenUp.take_up.Needs as need
 
 pub returns-then-bytes-lt20 : need.returns-then-bytes-lt20
 unfolding taken

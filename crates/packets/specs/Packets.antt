@@ -9,7 +9,7 @@ use Rattle.std.specs.declared.result.Result.the-variants.{Ok, Err}
 use Rattle.wire.specs.Octets.{two-at}
 use Rattle.refusal.specs.declared.Fault.{Fault}
 use Rattle.refusal.specs.declared.Fault.the-variants.{PacketSize, PacketCode, PacketLength}
-use Rattle.reading.specs.declared.packet.TakenUp.{TakenUp}
+use Rattle.packets.specs.declared.TakenUp.{TakenUp}
 
 unfoldable pub taken : List ℕ → Result (List ℕ) Fault
 taken bs =

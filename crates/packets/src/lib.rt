@@ -1,14 +1,13 @@
-// Taking up a packet, and spending it.
+//! Accounting-Requests: taken up, and spent once.
 ghost use mathlib.Core.Path.{_≡_};
-ghost use denote.Ref.{now};
-ghost use lib.ListN.{drop};
-ghost use Rattle.forms.specs.declared.encoding.Encoding.the-variants.{Packet};
-ghost use Rattle.reading.specs.Events.{from, «packet-meaning»};
-ghost use Rattle.reading.specs.Packets.{taken, «held-packet»};
-use super::PacketFeed;
-use super::TakenUp;
+ghost use Rattle.packets.specs.Packets.{taken, «held-packet»};
 use refusal::Fault;
 use wire::two_at;
+
+/// A packet that passed the first checks. It holds the packet's bytes up to its Length, and must be spent: read out or withheld.
+pub struct TakenUp<'a> {
+    packet: &'a [u8],
+}
 
 impl<'a> TakenUp<'a> {
     /// Checks the number of bytes, the code and Length; what lies after Length is ignored.
@@ -37,12 +36,12 @@ impl<'a> TakenUp<'a> {
         self.packet
     }
 
-    /// Spends it by reading out its events.
-    pub fn read_out(self) -> PacketFeed<'a>
-        ensures { λ r. ⌜ from Packet (r .place) (drop (r .place) (now (r .bytes))) ≡ «packet-meaning» (now (self .entry .packet)) ⌝ }
+    /// Spends it by handing out its bytes to be read.
+    pub fn into_bytes(self) -> &'a [u8]
+        ensures { λ r. ⌜ now r ≡ now (self .entry .packet) ⌝ }
     {
         let TakenUp { packet } = self;
-        PacketFeed::new(packet)
+        packet
     }
 
     /// Spends it without reading.
