@@ -1,5 +1,5 @@
 -- The 64 operations by their number from 0: what each of them takes, for the contracts of the functions that give it.
-use Rattle.std.specs.Prelude.{ℕ, cond, List, ◌++◌, map, nat_lt, slice_index}
+use Rattle.std.specs.Prelude.{ℕ, cond, ◌++◌, map, nat_lt, slice_index}
 use Rattle.digest.specs.Rounds.{F, G, H, I, Rows, round_1, round_2, round_3, round_4, sine}
 
 unfoldable pub rows : Rows

@@ -1,4 +1,6 @@
 //! The MD5 message digest of RFC 1321.
+#![tactic(auto)]
+
 ghost use Rattle.std.specs.Prelude.{◌≡◌};
 ghost use Rattle.digest.specs.Md5.{md5};
 

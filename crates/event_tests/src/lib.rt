@@ -1,4 +1,6 @@
 //! Tests of the layer of event messages, on values from the standards.
+#![tactic(auto)]
+
 #[cfg(test)]
 mod tests {
     use digest::digest;

@@ -1,3 +1,5 @@
 //! The text fields of a header: Element_ID, Time_Zone and Event_Time, with the forms that they must have.
+#![tactic(auto)]
+
 pub mod calendar;
 pub mod texts;

@@ -1,5 +1,5 @@
 -- A comparison by parts, as the tests come.
-use Rattle.std.proofs.Common.{◌≡◌, Ordering, Less, Equal, Greater, sym, refl, ap, ◌∙◌}
+use Rattle.std.proofs.Common.{◌≡◌, Ordering, Less, Equal, Greater, refl, ap, ◌∙◌}
 use Rattle.std.specs.Ordering.{ordering_then}
 
 pub decided : (k t : Ordering) → (k ≡ Equal → ⊥) → k ≡ ordering_then k t

@@ -1,20 +1,17 @@
 -- The worked cases, by computation.
-use Rattle.std.proofs.Common.{◌≡◌, ℕ, ◌+◌, true, false, List, [], ◌∷◌, ◌++◌, length, is_ok, Ok, Err, codes, sym, refl, ap, ◌∙◌, append-nil}
+use Rattle.std.proofs.Common.{◌≡◌, ℕ, ◌+◌, [], length, sym, refl, ap, ◌∙◌, append-nil}
 use Rattle.fields.specs.Texts.{pair_at, zone}
 use Rattle.fields.specs.Calendar.{years, months, timed, days_before, milliseconds}
 use Rattle.message.specs.Headers.{bcid_typed, header_typed}
-use Rattle.message.specs.Values.{others, attributes_of, attributes_typed}
+use Rattle.message.specs.Values.{others, attributes_typed}
 use Rattle.message.specs.Rules.{well_formed, sound}
-use Rattle.message.specs.Checks.{checked}
-use Rattle.message.specs.MediaAlive.{alive_header}
-use Rattle.message.specs.declared.event.Event.{Event}
 use Rattle.forms.specs.declared.encoding.Encoding.TheVariants.{Spool}
 use Rattle.forms.specs.Forms.{form}
-use Rattle.reading.specs.declared.ending.Ending.TheVariants.{End, Broken}
+use Rattle.reading.specs.declared.ending.Ending.TheVariants.{End}
 use Rattle.reading.specs.Tokens.{token_at, item_at}
 use Rattle.reading.specs.Events.{event_at, steps, from, after, spool_meaning}
 use Rattle.reading.proofs.Again.{reads_again}
-use Rattle.laws.specs.Worked.{alive_at, Worked}
+use Rattle.laws.specs.Worked.{Worked}
 
 nothing_left : (p : ℕ) → from Spool p [] ≡ ([], End)
 unfolding steps event_at token_at item_at

@@ -1,28 +1,25 @@
 -- Attributes in any order, and events by their forms.
-use Rattle.std.proofs.Common.{◌≡◌, ℕ, ◌+◌, Bool, true, false, cond, not, ◌&&◌, eqb, List, [], ◌∷◌, ◌++◌, length, is_some, Some, None, Ok, Err, Option, Result, Ordering, Less, Equal, Greater, sym, refl, ap, ◌∙◌, subst, ⊎_elim, arith}
+use Rattle.std.proofs.Common.{◌≡◌, ℕ, ◌+◌, Bool, true, false, cond, not, List, [], ◌∷◌, ◌++◌, length, is_some, Some, None, Ok, Err, Option, Result, Ordering, Less, Equal, Greater, sym, refl, ap, ◌∙◌, ⊎_elim, arith}
 use Rattle.std.proofs.lemmas.Bool.{eq-eqb, ne_eqb, and_parts, and_from, cond-true, cond-false, cases_eq}
-use Rattle.std.specs.Cmp.{nat_cmp_total}
-use Rattle.std.specs.Cmp.Lexicographic.{slice_cmp, lexical}
+use Rattle.std.specs.Cmp.Lexicographic.{slice_cmp, nat_list_cmp_total}
 use Rattle.std.specs.Ordering.{ordering_then, ordering_reverse, nat_cmp}
 use Rattle.std.proofs.lemmas.Map.Lookups.{exact_bytes}
 use Rattle.wire.specs.Octets.{two_at, four_at}
 use Rattle.refusal.specs.declared.Fault.{Fault}
 use Rattle.refusal.specs.declared.Fault.TheVariants.{UnknownKind, HeaderForm, MandatoryMissing}
-use Rattle.message.specs.declared.header.Header.{Header}
-use Rattle.message.specs.declared.attributes.Attributes.{Attributes}
 use Rattle.message.specs.declared.event.Event.{Event}
 use Rattle.message.specs.Tables.{beside, all, opt}
-use Rattle.message.specs.Headers.{header_form, bcid_form, bcid_at}
+use Rattle.message.specs.Headers.{bcid_form, bcid_at}
 use Rattle.message.specs.Values.{Attribute, fits, name_of, telephone_of, cause_of, adjustment_of, attributes_of, others}
 use Rattle.message.specs.Rules.{listed, well_formed, sound}
-use Rattle.message.specs.Checks.{tested, event_of, checked}
+use Rattle.message.specs.Checks.{tested, event_of}
 use Rattle.message.proofs.Checked.{parts}
 use Rattle.message.proofs.Typed.{found_fits, others_fit, attributes_again}
 use Rattle.forms.specs.declared.encoding.Encoding.TheVariants.{Spool, Packet}
-use Rattle.forms.specs.Forms.{written, items, form}
+use Rattle.forms.specs.Forms.{form}
 use Rattle.forms.specs.Order.{order}
 use Rattle.reading.specs.Events.{came, event_at}
-use Rattle.reading.specs.Laws.{apart, Shuffled, AnyOrder, FormTells, OrderTells, moved, CheckAlone}
+use Rattle.reading.specs.Laws.{apart, AnyOrder, FormTells, OrderTells, moved, CheckAlone}
 use Rattle.reading.proofs.Again.{read_any, form_read}
 use Rattle.reading.proofs.Meanings.{from_came}
 
@@ -49,7 +46,7 @@ unreversed Equal e = refl
 unreversed Greater e = let z : ◌≡◌ {A = ℕ} 0 1 = cc in let y : ⊥ = omega arith in absurd y
 
 lex_itself : (x : List ℕ) → slice_cmp nat_cmp x x ≡ Equal
-lex_itself x = unreversed (slice_cmp nat_cmp x x) ((lexical nat_cmp_total).flip x x)
+lex_itself x = unreversed (slice_cmp nat_cmp x x) (nat_list_cmp_total.antisymm x x)
 
 pub order_tells : OrderTells
 unfolding order

@@ -1,6 +1,5 @@
 -- The worked cases, gathered as one.
-use Rattle.std.specs.Prelude.{◌≡◌, ℕ, true, List, [], ◌∷◌, is_ok, Ok, Err, codes, Result}
-use Rattle.refusal.specs.declared.Fault.{Fault}
+use Rattle.std.specs.Prelude.{◌≡◌, ℕ, true, List, [], ◌∷◌, is_ok, Ok, Err, codes}
 use Rattle.refusal.specs.declared.Fault.TheVariants.{HeaderForm, UnknownItem}
 use Rattle.fields.specs.Calendar.{milliseconds}
 use Rattle.message.specs.declared.header.Header.{Header}

@@ -1,4 +1,6 @@
 //! Laws about the definitions, each stated in the contract of a function that does nothing else.
+#![tactic(auto)]
+
 ghost use Rattle.message.specs.declared.event.Event.{Event};
 ghost use Rattle.reading.specs.Laws.{FormTells, OrderTells, AnyOrder, CheckAlone, Lengths};
 ghost use Rattle.laws.specs.Worked.{Worked};

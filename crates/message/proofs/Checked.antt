@@ -1,9 +1,9 @@
 -- The rules that an event meets, one by one, and the check of them.
-use Rattle.std.proofs.Common.{◌≡◌, ℕ, Bool, true, false, cond, ◌&&◌, eqb, length, Ok, Err, sym, refl, ap, ◌∙◌, arith}
+use Rattle.std.proofs.Common.{◌≡◌, ℕ, Bool, true, false, eqb, length, Ok, Err, sym, refl, ap, ◌∙◌, arith}
 use mathlib.Core.HLevel.{is_prop→PathP}
 use mathlib.Core.Bool.{Bool-set}
-use Rattle.std.proofs.lemmas.Bool.{eq-eqb, eqb-true, and_parts, and_from, and_right, cond-true, cond-false}
-use Rattle.refusal.specs.declared.Fault.TheVariants.{UnknownKind, HeaderForm, MandatoryMissing}
+use Rattle.std.proofs.lemmas.Bool.{eq-eqb, eqb-true, and_parts, and_from, and_right, cond-true}
+use Rattle.refusal.specs.declared.Fault.TheVariants.{MandatoryMissing}
 use Rattle.message.specs.declared.header.Header.{Header}
 use Rattle.message.specs.declared.attributes.Attributes.{Attributes}
 use Rattle.message.specs.declared.event.Event.{Event}

@@ -1,5 +1,5 @@
 -- Attributes as values and as bytes: what is written is read again, and what is read is written again.
-use Rattle.std.proofs.Common.{◌≡◌, ℕ, zero, suc, ◌+◌, ◌-◌, ◌<◌, ◌≤◌, Bool, true, false, cond, ◌&&◌, eqb, ltb, leb, List, [], ◌∷◌, ◌++◌, length, take, drop, replicate, is_some, Some, None, Option, sym, refl, ap, ◌∙◌, subst, ⊎_elim, arith, lit≤, length-append, length-drop}
+use Rattle.std.proofs.Common.{◌≡◌, ℕ, zero, suc, ◌-◌, ◌≤◌, Bool, true, false, cond, ◌&&◌, eqb, ltb, leb, List, [], ◌∷◌, ◌++◌, length, take, drop, replicate, is_some, Some, None, Option, sym, refl, ap, ◌∙◌, subst, ⊎_elim, arith, length-append, length-drop}
 use lib.ListN.{length-replicate}
 use Rattle.std.proofs.lemmas.List.{take_all, take_at, drop_at, take-append-drop, length-take-le}
 use Rattle.std.proofs.lemmas.Bool.{eq-eqb, ne_eqb, eqb-true, leb-true, le-leb, ltb-true, lt-ltb, and_parts, and_from, cond-true, cond-false, cases_eq}
@@ -12,8 +12,8 @@ use Rattle.message.specs.declared.attributes.TerminationCause.{TerminationCause}
 use Rattle.message.specs.declared.attributes.Attributes.{Attributes}
 use Rattle.message.specs.Tables.{beside, all, opt, held}
 use Rattle.message.specs.Headers.{bcid_form, bcid_at, bcid_typed}
-use Rattle.message.specs.Values.{Attribute, widths, fits, within, zeros, name_form, name_of, name_typed, telephone_of, telephone_typed, cause_form, cause_of, cause_typed, adjustment_of, adjustment_typed, value, attributes_of, attributes_typed, put_before, present, others, kept}
-use Rattle.message.proofs.Wires.{BcidTyped, bcid_parts, bcid_long, bcid_at_typed, bcid_formed, bcid_back}
+use Rattle.message.specs.Values.{Attribute, widths, fits, zeros, name_form, name_of, name_typed, telephone_of, telephone_typed, cause_form, cause_of, cause_typed, adjustment_of, adjustment_typed, value, attributes_of, attributes_typed, put_before, present, others, kept}
+use Rattle.message.proofs.Wires.{bcid_parts, bcid_long, bcid_at_typed, bcid_formed, bcid_back}
 use Rattle.message.proofs.Listings.{Table, widths_fall, beside_present}
 
 -- options

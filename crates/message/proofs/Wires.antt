@@ -1,8 +1,8 @@
 -- Headers and BCIDs in bytes: what is written is read again, and what is read is written again.
-use Rattle.std.proofs.Common.{◌≡◌, ℕ, ◌+◌, ◌<◌, ◌≤◌, true, ◌&&◌, eqb, ltb, List, [], ◌∷◌, ◌++◌, length, get_or, sym, refl, ap, ◌∙◌, mod-eq_of_lt, arith, lit≤, length-append}
+use Rattle.std.proofs.Common.{◌≡◌, ℕ, ◌+◌, ◌<◌, ◌≤◌, true, eqb, ltb, List, [], ◌∷◌, ◌++◌, length, get_or, sym, refl, ap, ◌∙◌, mod-eq_of_lt, arith, lit≤, length-append}
 use Rattle.std.proofs.lemmas.List.{take_all}
 use Rattle.std.proofs.lemmas.Bool.{eq-eqb, eqb-true, ltb-true, lt-ltb, and_parts, and_from}
-use Rattle.wire.specs.Octets.{Octets, two, four, byte_at, two_at, four_at, part_of}
+use Rattle.wire.specs.Octets.{Octets, two, four, byte_at, part_of}
 use Rattle.wire.proofs.Chains.{join, parted, part_long}
 use Rattle.wire.proofs.Numbers.{two_long, four_long, take_one, two_small, four_small, two_of, four_of, two_back, four_back}
 use Rattle.message.specs.declared.header.Bcid.{Bcid}

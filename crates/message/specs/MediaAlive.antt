@@ -1,5 +1,5 @@
 -- The event that a new place holds.
-use Rattle.std.specs.Prelude.{ℕ, codes}
+use Rattle.std.specs.Prelude.{codes}
 use Rattle.message.specs.declared.header.Header.{Header}
 
 abbrev pub alive_header : Header

@@ -1,8 +1,8 @@
 -- The attributes besides the header: their numbers, their widths, and their values in bytes, both ways.
-use Rattle.std.specs.Prelude.{ℕ, ◌+◌, ◌-◌, ◌*◌, Bool, true, false, cond, ◌&&◌, ltb, List, [], ◌∷◌, ◌++◌, length, take, drop, replicate, ℤ, Some, None, Option, ◌==◌, nat_eq, nat_le, nat_lt, slice_index}
+use Rattle.std.specs.Prelude.{ℕ, ◌+◌, ◌-◌, ◌*◌, Bool, false, cond, ◌&&◌, ltb, List, [], ◌∷◌, ◌++◌, length, take, drop, replicate, ℤ, Some, None, Option, ◌==◌, nat_eq, nat_le, nat_lt, slice_index}
 use Rattle.std.proofs.Common.{to_z}
 use Rattle.std.specs.Int.{w64}
-use Rattle.wire.specs.Octets.{two, four, two_at, four_at, part_of}
+use Rattle.wire.specs.Octets.{two, four, two_at, four_at}
 use Rattle.message.specs.declared.attributes.EndpointName.{EndpointName}
 use Rattle.message.specs.declared.attributes.TelephoneNumber.{TelephoneNumber}
 use Rattle.message.specs.declared.attributes.TerminationCause.{TerminationCause}

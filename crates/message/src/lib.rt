@@ -1,4 +1,6 @@
 //! Event messages as values: header and attributes with their types, and the rules that every event meets.
+#![tactic(auto)]
+
 pub mod attributes;
 pub mod check;
 pub mod event;

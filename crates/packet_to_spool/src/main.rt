@@ -1,4 +1,6 @@
 //! Takes an Accounting-Request through from its bytes to a spool and back, and tells each step.
+#![tactic(auto)]
+
 mod comparing;
 mod feeding;
 mod front;

@@ -1,4 +1,6 @@
 //! Accounting-Requests: taken up, and spent once.
+#![tactic(auto)]
+
 ghost use Rattle.std.specs.Prelude.{◌≡◌};
 ghost use Rattle.packets.specs.Packets.{taken, held_packet};
 

@@ -1,5 +1,5 @@
 -- One step of the search for a CableLabs attribute.
-use Rattle.std.proofs.Common.{◌≡◌, ℕ, zero, suc, ◌+◌, ◌-◌, ◌<◌, ◌≤◌, List, length, drop, Some, None, Ok, Err, Option, Result, sym, refl, ap, ◌∙◌, subst, arith, Bor}
+use Rattle.std.proofs.Common.{◌≡◌, ℕ, zero, suc, ◌+◌, ◌-◌, ◌<◌, ◌≤◌, List, drop, Some, None, Ok, Option, sym, ap, ◌∙◌, subst, arith, Bor}
 use Rattle.refusal.specs.declared.Fault.{Fault}
 use Rattle.reading.specs.declared.attribute.Attribute.{Attribute}
 use Rattle.reading.specs.declared.attribute.Attribute.TheVariants.{CableLabs, Other}

@@ -1,12 +1,11 @@
 -- Attributes that are not CableLabs ones are skipped.
-use Rattle.std.proofs.Common.{◌≡◌, ℕ, zero, suc, ◌+◌, ◌-◌, ◌<◌, ◌≤◌, Bool, true, false, cond, ◌||◌, eqb, ltb, List, [], ◌∷◌, ◌++◌, length, take, drop, sym, refl, ap, ◌∙◌, subst, arith, length-append}
+use Rattle.std.proofs.Common.{◌≡◌, ℕ, zero, suc, ◌+◌, ◌-◌, ◌<◌, ◌≤◌, Bool, true, false, ◌||◌, eqb, List, ◌∷◌, ◌++◌, length, take, drop, refl, ap, ◌∙◌, arith, length-append}
 use Rattle.std.proofs.lemmas.List.{take_at, drop_at}
 use Rattle.std.proofs.lemmas.Bool.{le-ltb, cond-false}
-use Rattle.message.specs.declared.event.Event.{Event}
 use Rattle.forms.specs.declared.encoding.Encoding.TheVariants.{Packet}
 use Rattle.reading.specs.Walks as W
 use Rattle.reading.specs.Walks.{Walked, ended, cable, other, sorted, attribute_at}
-use Rattle.reading.specs.Tokens.{Seen, none, picked, pick, cable_at, token_at}
+use Rattle.reading.specs.Tokens.{Seen, picked, pick, token_at}
 use Rattle.reading.specs.Events.{headed, event_at}
 use Rattle.reading.proofs.Sizes.{walked_size, attribute_size}
 

@@ -1,12 +1,12 @@
 -- The attribute at a place of some bytes.
-use Rattle.std.proofs.Common.{◌≡◌, ℕ, ◌+◌, ◌-◌, ◌<◌, ◌≤◌, Bool, true, false, cond, ◌||◌, eqb, ltb, List, [], ◌∷◌, length, get_or, take, drop, Some, None, Ok, Err, Option, Result, sym, refl, ap, ◌∙◌, add_assoc, arith, length-drop}
+use Rattle.std.proofs.Common.{◌≡◌, ℕ, ◌+◌, ◌-◌, ◌<◌, ◌≤◌, Bool, true, false, cond, ◌||◌, ltb, List, ◌∷◌, length, get_or, take, drop, Some, None, Ok, Err, Option, Result, sym, refl, ap, ◌∙◌, add_assoc, arith, length-drop}
 use Rattle.std.proofs.lemmas.List.{drop_more, drop_all, drop-drop}
-use Rattle.std.proofs.lemmas.Bool.{lt-ltb, le-ltb, eq-eqb, ne_eqb, cond-true, cond-false}
+use Rattle.std.proofs.lemmas.Bool.{lt-ltb, le-ltb, cond-true, cond-false}
 use Rattle.refusal.specs.declared.Fault.TheVariants.{MalformedAttribute}
 use Rattle.refusal.specs.declared.Fault.{Fault}
 use Rattle.reading.specs.declared.attribute.Attribute.{Attribute}
 use Rattle.reading.specs.declared.attribute.Attribute.TheVariants.{CableLabs, Other}
-use Rattle.reading.specs.Walks.{Walked, ended, wrong, cable, other, vendor_in, sorted, attribute_at, viewed, next_place, Onward, Behind}
+use Rattle.reading.specs.Walks.{ended, wrong, cable, other, sorted, attribute_at, viewed, next_place, Onward, Behind}
 
 or_false : (a b : Bool) → a ≡ false → b ≡ false → a || b ≡ false
 or_false true b h k = h

@@ -1,4 +1,6 @@
 //! Events read from packets and spools.
+#![tactic(auto)]
+
 mod admission;
 pub mod attribute;
 pub mod ending;

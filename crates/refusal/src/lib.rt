@@ -1,4 +1,6 @@
 //! Refusals: what is wrong with an input or an output buffer, and where.
+#![tactic(auto)]
+
 ghost use Rattle.std.specs.Prelude.{◌≡◌};
 ghost use Rattle.refusal.specs.Table.{told};
 

@@ -1,7 +1,7 @@
 -- Numbers in two and four bytes, both ways.
-use Rattle.std.proofs.Common.{◌≡◌, ℕ, ◌+◌, ◌*◌, ◌/◌, ◌%◌, ◌<◌, ◌≤◌, List, [], ◌∷◌, length, get_or, take, drop, sym, refl, ap, ◌∙◌, add_assoc, arith}
+use Rattle.std.proofs.Common.{◌≡◌, ℕ, ◌+◌, ◌/◌, ◌%◌, ◌<◌, ◌≤◌, List, [], ◌∷◌, length, get_or, take, drop, sym, refl, ap, ◌∙◌, add_assoc, arith}
 use Rattle.std.proofs.lemmas.List.{drop_more}
-use Rattle.wire.specs.Octets.{Octets, two, four, byte_at, two_at, four_at, part_of}
+use Rattle.wire.specs.Octets.{Octets, two, four, two_at, four_at, part_of}
 
 pub two_long : (n : ℕ) → length (two n) ≡ 2
 unfolding two

@@ -1,4 +1,6 @@
 //! Fields of fixed width in byte slices: big-endian numbers and parts, read and laid down.
+#![tactic(auto)]
+
 ghost use Rattle.std.specs.Prelude.{◌≡◌, ℕ, ◌+◌, ◌-◌, ◌*◌, ◌<◌, ◌≤◌, ◌++◌, length, take, drop};
 ghost use Rattle.wire.specs.Octets.{two_at, four_at, two, four};
 

@@ -1,4 +1,6 @@
 //! Worked cases: what is read from small packets and spools, the digest's test suite, and buffers that are too small.
+#![tactic(auto)]
+
 mod answers;
 mod building;
 mod digests;

@@ -1,11 +1,10 @@
 -- A packet of our own is taken up and read again.
-use Rattle.std.proofs.Common.{◌≡◌, ℕ, ◌+◌, ◌-◌, ◌*◌, ◌<◌, ◌≤◌, Bool, true, false, cond, ◌||◌, eqb, ltb, List, [], ◌∷◌, ◌++◌, length, get_or, take, drop, replicate, Ok, Err, sym, refl, ap, ◌∙◌, subst, append_assoc, append-nil, arith, length-append}
+use Rattle.std.proofs.Common.{◌≡◌, ℕ, ◌+◌, ◌≤◌, Bool, true, false, ◌||◌, eqb, List, [], ◌∷◌, ◌++◌, length, get_or, take, drop, replicate, Ok, Err, sym, refl, ap, ◌∙◌, append_assoc, append-nil, arith, length-append}
 use Rattle.std.proofs.lemmas.List.{take_at, drop_at}
 use Rattle.std.proofs.lemmas.Bool.{le-ltb, cond-true, cond-false}
 use Rattle.refusal.specs.declared.Fault.TheVariants.{PacketLength, PacketCode}
 use Rattle.wire.specs.Octets.{two, two_at}
 use Rattle.wire.proofs.Numbers.{two_long, two_back}
-use Rattle.digest.specs.Md5.{md5}
 use Rattle.digest.proofs.Long.{md5_long}
 use Rattle.message.specs.declared.event.Event.{Event}
 use Rattle.message.specs.Headers.{bcid_form}
@@ -16,13 +15,13 @@ use Rattle.forms.specs.Forms.{encoded}
 use Rattle.reading.specs.declared.ending.Ending.TheVariants.{End}
 use Rattle.reading.specs.Walks.{attribute_at}
 use Rattle.reading.specs.Tokens.{token_at, pick}
-use Rattle.reading.specs.Events.{event_at, steps, from, after, came, packet_meaning}
+use Rattle.reading.specs.Events.{event_at, steps, from, after, came}
 use Rattle.packets.specs.Packets.{taken}
 use Rattle.reading.proofs.Again.{form_read}
 use Rattle.reading.proofs.Meanings.{from_came}
 use Rattle.reading.proofs.Skips.{event_skipped}
 use Rattle.reading.proofs.Bounds.{lengths}
-use Rattle.writing.specs.Requests.{attributes, opening, authenticator, sealed, request}
+use Rattle.writing.specs.Requests.{attributes, opening, authenticator, sealed}
 use Rattle.writing.specs.Returns.{Returns}
 
 bcid_24 : (e : Event) → length (bcid_form e.header.bcid) ≡ 24

@@ -1,5 +1,5 @@
 -- A packet that was written, taken up and read again.
-use Rattle.std.specs.Prelude.{◌≡◌, ℕ, ◌≤◌, List, [], ◌∷◌, ◌++◌, length, Ok, Result}
+use Rattle.std.specs.Prelude.{◌≡◌, ℕ, ◌≤◌, List, [], ◌∷◌, ◌++◌, length, Ok}
 use Rattle.message.specs.declared.event.Event.{Event}
 use Rattle.reading.specs.declared.ending.Ending.TheVariants.{End}
 use Rattle.reading.specs.Events.{packet_meaning}

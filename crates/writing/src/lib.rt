@@ -1,3 +1,5 @@
 //! Events written as spools and as packets.
+#![tactic(auto)]
+
 pub mod request;
 pub mod spool;

@@ -3,4 +3,4 @@ use Rattle.wire.proofs.four_bytes.Goals as goal
 
 pub returns : goal.returns
 unfolding four
-returns c = c.to-be-bytes.ensures
+returns c = c.to_be_bytes.ensures

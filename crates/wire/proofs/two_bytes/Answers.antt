@@ -3,4 +3,4 @@ use Rattle.wire.proofs.two_bytes.Goals as goal
 
 pub returns : goal.returns
 unfolding two
-returns c = c.to-be-bytes.ensures
+returns c = c.to_be_bytes.ensures

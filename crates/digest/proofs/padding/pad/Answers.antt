@@ -6,7 +6,7 @@ use Rattle.digest.proofs.padding.pad.Goals as goal
 pub returns : goal.returns
 returns c =
     let at = c.put-at-2.result in
-    let end = c.zeros-end-end.result in
+    let end = c.zeros_end-end.result in
     let before = take at c.put-at-2.new.out in
     let few : end - at < 64 = omega arith in
     let right : (length c.args.rest.now + 1 + (end - at)) % 64 ≡ 56 = omega arith in

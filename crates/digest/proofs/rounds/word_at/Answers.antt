@@ -5,4 +5,4 @@ use Rattle.digest.proofs.rounds.word_at.Goals as goal
 pub returns : goal.returns
 returns c =
     let h : 4 * c.args.k + 4 ≤ length c.args.block.now = omega arith in
-    word_is c.args.block.now c.args.k _ h c.from-le-bytes.ensures
+    word_is c.args.block.now c.args.k _ h c.from_le_bytes.ensures

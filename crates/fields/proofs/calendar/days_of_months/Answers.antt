@@ -1,4 +1,4 @@
-use Rattle.std.proofs.Common.{◌≡◌, sym, refl, ap, ◌∙◌, add-one, rules}
+use Rattle.std.proofs.Common.{refl, rules}
 use Rattle.fields.specs.Calendar.{months}
 use Rattle.fields.proofs.Dates.{more_months}
 use Rattle.fields.proofs.calendar.days_of_months.Goals as goal
@@ -9,4 +9,4 @@ loop-i-init c = (refl, search rules)
 
 pub loop-i-preserved : goal.loop-i-preserved
 unfolding months
-loop-i-preserved c = (more_months c.args.year c.loop-i.i _ _ c.loop-i.invariant.0 c.days-in-days.ensures.value, search rules)
+loop-i-preserved c = (more_months c.args.year c.loop-i.i _ _ c.loop-i.invariant.0 c.days_in-days.ensures.value, search rules)

@@ -1,4 +1,4 @@
-use Rattle.std.proofs.Common.{◌≡◌, sym, refl, ap, ◌∙◌, add-one, rules}
+use Rattle.std.proofs.Common.{refl, add-one, rules}
 use Rattle.fields.specs.Calendar.{years}
 use Rattle.fields.proofs.calendar.days_of_years.Goals as goal
 

@@ -1,7 +1,7 @@
-use Rattle.std.proofs.Common.{◌≡◌, ◌<◌, ◌≤◌, false, length, get_or, drop, sym, refl, ap, ◌∙◌, ⊎_elim, rules}
+use Rattle.std.proofs.Common.{◌≡◌, ◌≤◌, false, length, get_or, sym, ap, ◌∙◌, rules}
 use Rattle.std.proofs.lemmas.List.{drop_all}
 use Rattle.fields.specs.Texts.{digit, digits}
-use Rattle.fields.proofs.Walks.{no_digit, one_digit, low, high}
+use Rattle.fields.proofs.Walks.{no_digit, one_digit}
 use Rattle.fields.proofs.texts.is_digits.Goals as goal
 
 pub returns-then-b-lt48 : goal.returns-then-b-lt48

@@ -1,4 +1,4 @@
-use Rattle.std.proofs.Common.{◌≡◌, ◌<◌, ◌≤◌, length, get_or, drop, sym, refl, ap, ◌∙◌, rules}
+use Rattle.std.proofs.Common.{◌≤◌, length, sym, ap, ◌∙◌, rules}
 use Rattle.std.proofs.lemmas.List.{drop_all, take_rest}
 use Rattle.fields.specs.Texts.{digits, spaced}
 use Rattle.fields.proofs.Walks.{one_space, no_space}
@@ -6,7 +6,7 @@ use Rattle.fields.proofs.texts.is_spaced.Goals as goal
 
 pub returns-then-bytes-i-ne32 : goal.returns-then-bytes-i-ne32
 returns-then-bytes-i-ne32 c =
-    c.is-digits.ensures ∙ ap digits (take_rest c.args.bytes.now c.loop-i.i)
+    c.is_digits.ensures ∙ ap digits (take_rest c.args.bytes.now c.loop-i.i)
     ∙ no_space c.args.bytes.now c.loop-i.i _ (search rules) (search rules) c.loop-i.invariant
 
 pub loop-i-preserved : goal.loop-i-preserved

@@ -1,4 +1,4 @@
-use Rattle.std.proofs.Common.{◌-◌, ◌≤◌, length, refl, arith, rules}
+use Rattle.std.proofs.Common.{◌-◌, length, refl, arith, rules}
 use Rattle.forms.proofs.Chains.{name_laid, packet_laid, take_zeros}
 use Rattle.forms.proofs.laying.put_name_bytes.Goals as goal
 

@@ -4,22 +4,22 @@ use Rattle.message.specs.Rules.{listed, well_formed}
 use Rattle.message.proofs.Checked.{make_sound, checked_event, incomplete}
 use Rattle.message.proofs.check.check_event.Goals as goal
 
-pub returns-in-err-has-mandatory : goal.returns-in-err-has-mandatory
-returns-in-err-has-mandatory c =
-    let p = err_from_is_err_and c.from-residual.result c.from-residual.ensures.1 in
+pub returns-in_err-has_mandatory : goal.returns-in_err-has_mandatory
+returns-in_err-has_mandatory c =
+    let p = err_from_is_err_and c.from_residual.result c.from_residual.ensures.1 in
     let l : listed c.args.header.kind ≡ true = search rules in
     let w : well_formed c.args.header ≡ true = search rules in
-    let e = c.in-err-has-mandatory.ensures in
+    let e = c.in_err-has_mandatory.ensures in
     rw (p.1, p.2) (ap Err e.1 ∙ incomplete c.args.at c.args.header c.args.attributes l w e.0)
 
-pub invariant-of-result : goal.invariant-of-result
-invariant-of-result c =
+pub invariant_of-result : goal.invariant_of-result
+invariant_of-result c =
     let l : listed c.args.header.kind ≡ true = search rules in
-    let w : well_formed c.args.header ≡ true = search rules in (
-      make_sound c.args.header c.args.attributes record
-          { header = c.requires.header; attributes = c.requires.attributes; count = c.requires.count; kind = l; formed = w; full = c.in-ok-has-mandatory.ensures },
-      tt,
-    )
+    let w : well_formed c.args.header ≡ true = search rules in
+    record {
+      sound = make_sound c.args.header c.args.attributes record
+          { header = c.requires.header; attributes = c.requires.attributes; count = c.requires.count; kind = l; formed = w; full = c.in_ok-has_mandatory.ensures };
+    }
 
 pub returns : goal.returns
 returns c = sym (checked_event c.args.at c.args.header c.args.attributes _)

@@ -1,37 +1,37 @@
-use Rattle.std.proofs.Common.{◌≡◌, true, false, length, sym, ap, ◌∙◌}
+use Rattle.std.proofs.Common.{length, sym, ap, ◌∙◌}
 use Rattle.message.specs.Tables.{beside}
-use Rattle.message.specs.Values.{widths, within, fits}
+use Rattle.message.specs.Values.{widths, within}
 use Rattle.reading.proofs.Admitted.{is_unknown, is_header, is_unfit, is_repeated, is_fine}
 use Rattle.reading.proofs.admission.admit.Goals as goal
 
-pub returns-then-not-is-known : goal.returns-then-not-is-known
-returns-then-not-is-known c =
+pub returns-then-not-is_known : goal.returns-then-not-is_known
+returns-then-not-is_known c =
     let t = c.args.token.now in
-    record { read = is_unknown c.args.encoding t.at t.number t.body.now c.args.repeated (sym c.is-known.ensures ∙ c.if-not-is-known.true); fits = tt }
+    record { read = is_unknown c.args.encoding t.at t.number t.body.now c.args.repeated (sym c.is_known.ensures ∙ c.if-not-is_known.true); fits = tt }
 
 pub returns-then-number-eq1 : goal.returns-then-number-eq1
 returns-then-number-eq1 c =
     let t = c.args.token.now in
-    record { read = is_header c.args.encoding t.at t.number t.body.now c.args.repeated (sym c.is-known.ensures ∙ c.if-not-is-known.false) c.if-number-eq1.true; fits = tt }
+    record { read = is_header c.args.encoding t.at t.number t.body.now c.args.repeated (sym c.is_known.ensures ∙ c.if-not-is_known.false) c.if-number-eq1.true; fits = tt }
 
-pub returns-then-not-fits-width : goal.returns-then-not-fits-width
-returns-then-not-fits-width c =
+pub returns-then-not-fits_width : goal.returns-then-not-fits_width
+returns-then-not-fits_width c =
     let t = c.args.token.now in
-    let e = ap (λ v. within (length v) (beside t.number widths)) (sym c.value-in-value.ensures) ∙ sym c.fits-width.ensures ∙ c.if-not-fits-width.true in
-    record { read = is_unfit c.args.encoding t.at t.number t.body.now c.args.repeated (sym c.is-known.ensures ∙ c.if-not-is-known.false) c.if-number-eq1.false e; fits = tt }
+    let e = ap (λ v. within (length v) (beside t.number widths)) (sym c.value_in-value.ensures) ∙ sym c.fits_width.ensures ∙ c.if-not-fits_width.true in
+    record { read = is_unfit c.args.encoding t.at t.number t.body.now c.args.repeated (sym c.is_known.ensures ∙ c.if-not-is_known.false) c.if-number-eq1.false e; fits = tt }
 
 pub returns-then-repeated : goal.returns-then-repeated
 returns-then-repeated c =
     let t = c.args.token.now in
-    let e = ap (λ v. within (length v) (beside t.number widths)) (sym c.value-in-value.ensures) ∙ sym c.fits-width.ensures ∙ c.if-not-fits-width.false in
-    record { read = is_repeated c.args.encoding t.at t.number t.body.now c.args.repeated (sym c.is-known.ensures ∙ c.if-not-is-known.false) c.if-number-eq1.false e c.if-repeated.true; fits = tt }
+    let e = ap (λ v. within (length v) (beside t.number widths)) (sym c.value_in-value.ensures) ∙ sym c.fits_width.ensures ∙ c.if-not-fits_width.false in
+    record { read = is_repeated c.args.encoding t.at t.number t.body.now c.args.repeated (sym c.is_known.ensures ∙ c.if-not-is_known.false) c.if-number-eq1.false e c.if-repeated.true; fits = tt }
 
 pub returns : goal.returns
 returns c =
     let t = c.args.token.now in
-    let f = sym c.fits-width.ensures ∙ c.if-not-fits-width.false in
-    let e = ap (λ v. within (length v) (beside t.number widths)) (sym c.value-in-value.ensures) ∙ f in
+    let f = sym c.fits_width.ensures ∙ c.if-not-fits_width.false in
+    let e = ap (λ v. within (length v) (beside t.number widths)) (sym c.value_in-value.ensures) ∙ f in
     record {
-      read = is_fine c.args.encoding t.at t.number t.body.now c.args.repeated (sym c.is-known.ensures ∙ c.if-not-is-known.false) c.if-number-eq1.false c.value-in-value.result.now c.value-in-value.ensures e c.if-repeated.false;
+      read = is_fine c.args.encoding t.at t.number t.body.now c.args.repeated (sym c.is_known.ensures ∙ c.if-not-is_known.false) c.if-number-eq1.false c.value_in-value.result.now c.value_in-value.ensures e c.if-repeated.false;
       fits = f;
     }

@@ -1,4 +1,4 @@
-use Rattle.std.proofs.Common.{◌≡◌, suc, ◌+◌, ◌-◌, ◌<◌, ◌≤◌, length, drop, sym, refl, ap, ◌∙◌, arith, length-drop}
+use Rattle.std.proofs.Common.{suc, ◌-◌, length, drop, refl, arith, length-drop}
 use Rattle.std.proofs.lemmas.Result.{err_from_is_err_and}
 use Rattle.reading.proofs.Picks.{fails, ends, finds, skips, beyond_cable, beyond_other}
 use Rattle.reading.proofs.tokens.cable_at.Goals as goal
@@ -9,16 +9,16 @@ loop-attribute-init c =
     let p = c.args.at in
     (omega arith, c.requires, (suc (length (drop p b)), omega (arith, length-drop p b), refl))
 
-pub attribute-at-requires : goal.attribute-at-requires
-attribute-at-requires c = c.loop-attribute.invariant.1
+pub attribute_at-requires : goal.attribute_at-requires
+attribute_at-requires c = c.loop-attribute.invariant.1
 
-pub returns-in-err-attribute : goal.returns-in-err-attribute
-returns-in-err-attribute c =
+pub returns-in_err-attribute : goal.returns-in_err-attribute
+returns-in_err-attribute c =
     let i = c.loop-attribute.invariant in
     let x = i.1 in
     let y = i.2.1 in
-    let r = err_from_is_err_and c.from-residual.result c.from-residual.ensures.1 in
-    rw (r.1, r.2) record { read = fails c.args.bytes.now c.loop-attribute.place i.2.0 _ (omega arith) i.2.2 _ c.in-err-attribute.ensures.read; further = tt }
+    let r = err_from_is_err_and c.from_residual.result c.from_residual.ensures.1 in
+    rw (r.1, r.2) record { read = fails c.args.bytes.now c.loop-attribute.place i.2.0 _ (omega arith) i.2.2 _ c.in_err-attribute.ensures.read; further = tt }
 
 pub returns-in-CableLabs : goal.returns-in-CableLabs
 returns-in-CableLabs c =
@@ -27,17 +27,17 @@ returns-in-CableLabs c =
     let y = i.2.1 in
     let z = i.0 in
     let t = c.in-CableLabs in
-    let o = beyond_cable c.loop-attribute.place (length c.args.bytes.now) c.in-ok-attribute.field-0 c.in-Some.attribute t.number t.value t.at t.next c.in-Some.is t.is c.in-ok-attribute.ensures.onward in
+    let o = beyond_cable c.loop-attribute.place (length c.args.bytes.now) c.in_ok-attribute.field-0 c.in-Some.attribute t.number t.value t.at t.next c.in-Some.is t.is c.in_ok-attribute.ensures.onward in
     let o0 = o.0 in
     record {
-      read = finds c.args.bytes.now c.loop-attribute.place i.2.0 _ (omega arith) i.2.2 c.in-ok-attribute.field-0 c.in-Some.attribute c.in-Some.is c.in-ok-attribute.ensures.read t.number t.value t.at t.next t.is;
+      read = finds c.args.bytes.now c.loop-attribute.place i.2.0 _ (omega arith) i.2.2 c.in_ok-attribute.field-0 c.in-Some.attribute c.in-Some.is c.in_ok-attribute.ensures.read t.number t.value t.at t.next t.is;
       further = (omega arith, o.1);
     }
 
 pub loop-attribute-smaller : goal.loop-attribute-smaller
 loop-attribute-smaller c =
     let t = c.in-Other in
-    let o = beyond_other c.loop-attribute.place (length c.args.bytes.now) c.in-ok-attribute.field-0 c.in-Some.attribute t.kind t.value t.at t.next c.in-Some.is t.is c.in-ok-attribute.ensures.onward in
+    let o = beyond_other c.loop-attribute.place (length c.args.bytes.now) c.in_ok-attribute.field-0 c.in-Some.attribute t.kind t.value t.at t.next c.in-Some.is t.is c.in_ok-attribute.ensures.onward in
     let o0 = o.0 in let o1 = o.1 in
     omega arith
 
@@ -48,14 +48,14 @@ loop-attribute-preserved c =
     let y = i.2.1 in
     let z = i.0 in
     let t = c.in-Other in
-    let o = beyond_other c.loop-attribute.place (length c.args.bytes.now) c.in-ok-attribute.field-0 c.in-Some.attribute t.kind t.value t.at t.next c.in-Some.is t.is c.in-ok-attribute.ensures.onward in
+    let o = beyond_other c.loop-attribute.place (length c.args.bytes.now) c.in_ok-attribute.field-0 c.in-Some.attribute t.kind t.value t.at t.next c.in-Some.is t.is c.in_ok-attribute.ensures.onward in
     let o0 = o.0 in let o1 = o.1 in (
       omega arith,
       o1,
       (
         i.2.0 - 1,
         omega arith,
-        skips c.args.bytes.now c.loop-attribute.place i.2.0 _ (omega arith) i.2.2 c.in-ok-attribute.field-0 c.in-Some.attribute c.in-Some.is c.in-ok-attribute.ensures.read t.kind t.value t.at t.next t.is,
+        skips c.args.bytes.now c.loop-attribute.place i.2.0 _ (omega arith) i.2.2 c.in_ok-attribute.field-0 c.in-Some.attribute c.in-Some.is c.in_ok-attribute.ensures.read t.kind t.value t.at t.next t.is,
       ),
     )
 
@@ -65,6 +65,6 @@ returns c =
     let x = i.1 in
     let y = i.2.1 in
     record {
-      read = ends c.args.bytes.now c.loop-attribute.place i.2.0 _ (omega arith) i.2.2 c.in-ok-attribute.field-0 _ c.in-default.is c.in-ok-attribute.ensures.read c.in-ok-attribute.ensures.onward;
+      read = ends c.args.bytes.now c.loop-attribute.place i.2.0 _ (omega arith) i.2.2 c.in_ok-attribute.field-0 _ c.in_default.is c.in_ok-attribute.ensures.read c.in_ok-attribute.ensures.onward;
       further = c.requires;
     }

@@ -6,4 +6,4 @@ use Rattle.message.proofs.attributes.TerminationCause.bytes.Goals as goal
 pub returns : goal.returns
 returns c =
     let l : length c.put.new.out ≤ c.put.result = search rules in
-    sym (take_all c.put.result c.put.new.out l) ∙ then _ (c.put-at.ensures.bytes ∙ c.two-bytes.ensures) c.four-bytes.ensures c.put.ensures.bytes
+    sym (take_all c.put.result c.put.new.out l) ∙ then _ (c.put-at.ensures.bytes ∙ c.two_bytes.ensures) c.four_bytes.ensures c.put.ensures.bytes

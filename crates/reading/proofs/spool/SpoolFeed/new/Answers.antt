@@ -3,5 +3,5 @@ use Rattle.forms.specs.declared.encoding.Encoding.TheVariants.{Spool}
 use Rattle.reading.proofs.Meanings.{few_left}
 use Rattle.reading.proofs.spool.SpoolFeed.new.Goals as goal
 
-pub invariant-of-result : goal.invariant-of-result
-invariant-of-result c = let h : length c.args.bytes.now < 2 ^ 64 = search rules in (search rules, (few_left Spool c.args.bytes.now 0 h, tt))
+pub invariant_of-result : goal.invariant_of-result
+invariant_of-result c = let h : length c.args.bytes.now < 2 ^ 64 = search rules in record { within = search rules; few = few_left Spool c.args.bytes.now 0 h }

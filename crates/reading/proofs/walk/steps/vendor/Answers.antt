@@ -7,9 +7,9 @@ pub returns-then-value-lt4 : goal.returns-then-value-lt4
 unfolding vendor_in
 returns-then-value-lt4 c = record { read = λ rest. search rules; next = tt }
 
-pub returns-then-four-at-ne4491 : goal.returns-then-four-at-ne4491
+pub returns-then-four_at-ne4491 : goal.returns-then-four_at-ne4491
 unfolding vendor_in
-returns-then-four-at-ne4491 c = record { read = λ rest. search rules; next = refl }
+returns-then-four_at-ne4491 c = record { read = λ rest. search rules; next = refl }
 
 pub returns-then-value-lt6 : goal.returns-then-value-lt6
 unfolding vendor_in

@@ -1,14 +1,14 @@
-use Rattle.std.proofs.Common.{◌≡◌, ◌^◌, ◌<◌, length, drop, Ok, Err, sym, refl, ap, ◌∙◌, rules}
+use Rattle.std.proofs.Common.{◌^◌, ◌<◌, length, drop, Ok, sym, refl, ap, ◌∙◌, rules}
 use Rattle.forms.specs.declared.encoding.Encoding.TheVariants.{Packet}
 use Rattle.reading.specs.Readings.{as_read}
 use Rattle.reading.specs.Events.{from}
 use Rattle.reading.proofs.Meanings.{from_came, from_over, from_wrong, few_left, answered}
 use Rattle.reading.proofs.packet.feed.PacketFeedFeed.next.Goals as goal
 
-pub invariant-of-self : goal.invariant-of-self
-invariant-of-self c =
+pub invariant_of-self : goal.invariant_of-self
+invariant_of-self c =
     let h : length c.args.self.now.bytes.now < 2 ^ 64 = search rules in
-    (search rules, (few_left Packet c.args.self.now.bytes.now c.in-Some.read.next h, tt))
+    record { within = search rules; few = few_left Packet c.args.self.now.bytes.now c.in-Some.read.next h }
 
 pub returns-in-Some : goal.returns-in-Some
 returns-in-Some c =
