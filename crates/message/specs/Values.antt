@@ -1,5 +1,5 @@
 -- The attributes besides the header: their numbers, their widths, and their values in bytes, both ways.
-use Rattle.std.specs.Prelude.{ℕ, ◌+◌, ◌-◌, ◌*◌, Bool, false, cond, ◌&&◌, ltb, List, [], ◌∷◌, ◌++◌, length, take, drop, replicate, ℤ, Some, None, Option, ◌==◌, nat_eq, nat_le, nat_lt, slice_index}
+use Rattle.std.specs.Prelude.{ℕ, ◌+◌, ◌-◌, ◌*◌, Bool, false, cond, ◌&&◌, List, [], ◌∷◌, ◌++◌, length, take, drop, replicate, ℤ, Some, None, Option, ◌==◌, nat_eq, nat_le, nat_lt, slice_index}
 use Rattle.std.proofs.Common.{to_z}
 use Rattle.std.specs.Int.{w64}
 use Rattle.wire.specs.Octets.{two, four, two_at, four_at}
@@ -101,8 +101,8 @@ unfoldable pub attributes_typed : Attributes → Bool
 attributes_typed a =
     held name_typed a.endpoint_name && held telephone_typed a.calling_party_number && held telephone_typed a.called_party_number
     && held cause_typed a.termination_cause && held bcid_typed a.related_call && held telephone_typed a.charge_number
-    && held telephone_typed a.routing_number && held (λ n. ltb n 4294967296) a.udp_port && held (λ n. ltb n 4294967296) a.service_flow
-    && held (λ n. ltb n 65536) a.direction && held adjustment_typed a.time_adjustment && held (λ n. ltb n 65536) a.flow_direction
+    && held telephone_typed a.routing_number && held (λ n. nat_lt n 4294967296) a.udp_port && held (λ n. nat_lt n 4294967296) a.service_flow
+    && held (λ n. nat_lt n 65536) a.direction && held adjustment_typed a.time_adjustment && held (λ n. nat_lt n 65536) a.flow_direction
 
 -- the attributes that are there, the highest number first
 abbrev pub put_before : ℕ → Option (List ℕ) → List Attribute → List Attribute
