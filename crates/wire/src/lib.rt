@@ -1,8 +1,14 @@
 //! Fields of fixed width in byte slices: big-endian numbers and parts, read and laid down.
 #![tactic(auto)]
 
+mod buffer;
+mod fixed_width;
+
 ghost use Rattle.std.specs.Prelude.{◌≡◌, ℕ, ◌+◌, ◌-◌, ◌*◌, ◌<◌, ◌≤◌, ◌++◌, length, take, drop};
 ghost use Rattle.wire.specs.Octets.{two_at, four_at, two, four};
+
+pub use buffer::Buffer;
+pub use fixed_width::FixedWidth;
 
 /// The N bytes from `at` on.
 pub fn part<const N: usize>(bytes: &[u8], at: usize) -> [u8; N]
