@@ -5,7 +5,7 @@ ghost use Rattle.fields.specs.Calendar.{leap, days_in, years, months, dated, tim
 use crate::texts::{is_clock, is_digits, pair};
 
 /// A date and a time of day, yyyymmddhhmmss.mmm.
-#[derive(Clone, Copy)]
+#[derive(Clone, Copy, PartialEq, Eq, PartialOrd, Ord, Debug)]
 pub struct EventTime(pub [u8; 18]);
 
 impl EventTime {

@@ -3,11 +3,11 @@ ghost use Rattle.std.specs.Prelude.{◌≡◌, ◌+◌, ◌≤◌, ◌||◌, len
 ghost use Rattle.fields.specs.Texts.{digits, spaced, pair_at, clock, zone};
 
 /// The element that sent a message: spaces, then digits, eight bytes in all.
-#[derive(Clone, Copy)]
+#[derive(Clone, Copy, PartialEq, Eq, PartialOrd, Ord, Debug)]
 pub struct ElementId(pub [u8; 8]);
 
 /// A zone: 0 or 1 for daylight saving, a sign, then hhmmss.
-#[derive(Clone, Copy)]
+#[derive(Clone, Copy, PartialEq, Eq, PartialOrd, Ord, Debug)]
 pub struct TimeZone(pub [u8; 8]);
 
 impl ElementId {
