@@ -2,7 +2,7 @@
 use Rattle.std.specs.Prelude.{ℕ, ◌+◌, ◌-◌, ◌*◌, Bool, false, cond, ◌&&◌, List, [], ◌∷◌, ◌++◌, length, take, drop, replicate, ℤ, Some, None, Option, ◌==◌, nat_eq, nat_le, nat_lt, slice_index}
 use Rattle.std.proofs.Common.{to_z}
 use Rattle.std.specs.Int.{w64}
-use Rattle.wire.specs.Octets.{two, four, two_at, four_at}
+use Rattle.wire.specs.Octets.{two, four, two_at, four_at, part_of}
 use Rattle.message.specs.declared.attributes.EndpointName.{EndpointName}
 use Rattle.message.specs.declared.attributes.TelephoneNumber.{TelephoneNumber}
 use Rattle.message.specs.declared.attributes.TerminationCause.{TerminationCause}
@@ -45,20 +45,30 @@ name_typed x = nat_le 1 x.«length» && nat_le x.«length» 32 && length x.text 
 abbrev pub telephone_of : List ℕ → TelephoneNumber
 telephone_of v = record { 0 = v }
 
+abbrev pub telephone_at : ℕ → List ℕ → TelephoneNumber
+telephone_at i b = telephone_of (part_of i 20 b)
+
 abbrev pub telephone_typed : TelephoneNumber → Bool
 telephone_typed x = length x.0 == 20
 
 abbrev pub cause_form : TerminationCause → List ℕ
 cause_form x = two x.source_document ++ four x.cause_code
 
+-- the cause that stands at i
+abbrev pub cause_at : ℕ → List ℕ → TerminationCause
+cause_at i b = record { source_document = two_at i b; cause_code = four_at (i + 2) b }
+
 abbrev pub cause_of : List ℕ → TerminationCause
-cause_of v = record { source_document = two_at 0 v; cause_code = four_at 2 v }
+cause_of v = cause_at 0 v
 
 unfoldable pub cause_typed : TerminationCause → Bool
 cause_typed x = nat_lt x.source_document 65536 && nat_lt x.cause_code 4294967296
 
 abbrev pub adjustment_of : List ℕ → TimeAdjustment
 adjustment_of v = record { 0 = v }
+
+abbrev pub adjustment_at : ℕ → List ℕ → TimeAdjustment
+adjustment_at i b = adjustment_of (part_of i 8 b)
 
 abbrev pub adjustment_typed : TimeAdjustment → Bool
 adjustment_typed x = length x.0 == 8

@@ -5,84 +5,69 @@ ghost use Rattle.message.specs.Headers.{bcid_form, bcid_at, header_form, header_
 use crate::header::{Bcid, EventCounter, Header, SequenceNumber};
 use fields::calendar::EventTime;
 use fields::texts::{ElementId, TimeZone};
-use wire::{four_at, four_bytes, part, put, two_at, two_bytes};
+use wire::{Buffer, FixedWidth, part};
 
-impl Bcid {
-    /// The BCID in the 24 bytes from `at` on.
-    pub(crate) fn read(bytes: &[u8], at: usize) -> Bcid
-        requires { at + 24 ≤ length bytes.now }
-        ensures { result ≡ bcid_at at bytes.now }
-    {
+impl FixedWidth<24> for Bcid {
+    ghost form = { bcid_form };
+
+    ghost found = { bcid_at };
+
+    fn read(bytes: &[u8], at: usize) -> Bcid {
         Bcid {
-            timestamp: four_at(bytes, at),
+            timestamp: u32::read(bytes, at),
             element_id: ElementId(part(bytes, at + 4)),
             time_zone: TimeZone(part(bytes, at + 12)),
-            event_counter: EventCounter(four_at(bytes, at + 20)),
+            event_counter: EventCounter(u32::read(bytes, at + 20)),
         }
     }
 
-    /// Lays its 24 bytes down from `at` on.
-    fn put(&self, out: &mut [u8], at: usize) -> usize
-        requires { at + 24 ≤ length out.old }
-        ensures place { result ≡ at + 24 }
-        ensures bytes { take result out.new ≡ take at out.old ++ bcid_form self.now }
-    {
-        let at = put(out, at, &four_bytes(self.timestamp));
-        let at = put(out, at, &self.element_id.0);
-        let at = put(out, at, &self.time_zone.0);
-        put(out, at, &four_bytes(self.event_counter.0))
-    }
-}
-
-impl Bcid {
-    /// Its 24 bytes.
-    pub fn bytes(&self) -> [u8; 24]
-        ensures { result ≡ bcid_form self.now }
-    {
-        let mut out = [0; 24];
-        self.put(&mut out, 0);
-        out
+    fn to_bytes(&self) -> [u8; 24] {
+        let mut out = Buffer::<24>::new();
+        out.push(&self.timestamp.to_bytes());
+        out.push(&self.element_id.0);
+        out.push(&self.time_zone.0);
+        out.push(&self.event_counter.0.to_bytes());
+        out.into_array()
     }
 }
 
 impl Header {
     /// The header that 76 bytes hold.
-    pub fn read(bytes: &[u8]) -> Header
-        requires { length bytes.now ≡ 76 }
+    pub fn from_bytes(bytes: &[u8; 76]) -> Header
         ensures { result ≡ header_of bytes.now }
     {
         Header {
-            version_id: two_at(bytes, 0),
+            version_id: u16::read(bytes, 0),
             bcid: Bcid::read(bytes, 2),
-            kind: two_at(bytes, 26),
-            element_type: two_at(bytes, 28),
+            kind: u16::read(bytes, 26),
+            element_type: u16::read(bytes, 28),
             element_id: ElementId(part(bytes, 30)),
             time_zone: TimeZone(part(bytes, 38)),
-            sequence_number: SequenceNumber(four_at(bytes, 46)),
+            sequence_number: SequenceNumber(u32::read(bytes, 46)),
             event_time: EventTime(part(bytes, 50)),
-            status: four_at(bytes, 68),
+            status: u32::read(bytes, 68),
             priority: bytes[72],
-            attribute_count: two_at(bytes, 73),
+            attribute_count: u16::read(bytes, 73),
             event_object: bytes[75],
         }
     }
-    /// Its 76 bytes.
-    pub fn bytes(&self) -> [u8; 76]
+
+    pub fn to_bytes(&self) -> [u8; 76]
         ensures { result ≡ header_form self.now }
     {
-        let mut out = [0; 76];
-        let at = put(&mut out, 0, &two_bytes(self.version_id));
-        let at = self.bcid.put(&mut out, at);
-        let at = put(&mut out, at, &two_bytes(self.kind));
-        let at = put(&mut out, at, &two_bytes(self.element_type));
-        let at = put(&mut out, at, &self.element_id.0);
-        let at = put(&mut out, at, &self.time_zone.0);
-        let at = put(&mut out, at, &four_bytes(self.sequence_number.0));
-        let at = put(&mut out, at, &self.event_time.0);
-        let at = put(&mut out, at, &four_bytes(self.status));
-        let at = put(&mut out, at, &[self.priority]);
-        let at = put(&mut out, at, &two_bytes(self.attribute_count));
-        put(&mut out, at, &[self.event_object]);
-        out
+        let mut out = Buffer::<76>::new();
+        out.push(&self.version_id.to_bytes());
+        out.push(&self.bcid.to_bytes());
+        out.push(&self.kind.to_bytes());
+        out.push(&self.element_type.to_bytes());
+        out.push(&self.element_id.0);
+        out.push(&self.time_zone.0);
+        out.push(&self.sequence_number.0.to_bytes());
+        out.push(&self.event_time.0);
+        out.push(&self.status.to_bytes());
+        out.push(&[self.priority]);
+        out.push(&self.attribute_count.to_bytes());
+        out.push(&[self.event_object]);
+        out.into_array()
     }
 }

@@ -1,32 +1,58 @@
 //! Attributes as they are read, one after another.
 ghost use Rattle.std.specs.Prelude.{◌≡◌, ℕ, ◌+◌, ◌<◌, ◌≤◌, true, [], ◌∷◌, length};
-ghost use Rattle.message.specs.Values.{fits, attributes_of, kept, cause_of, cause_form, adjustment_value};
+ghost use Rattle.message.specs.Values.{fits, attributes_of, kept, cause_at, cause_form, telephone_at, adjustment_at, adjustment_value};
 
 use crate::attributes::{
     Attributes, EndpointName, TelephoneNumber, TerminationCause, TimeAdjustment,
 };
 use crate::header::Bcid;
-use wire::{four_at, four_bytes, put, two_at, two_bytes, whole};
+use wire::{Buffer, FixedWidth, part};
 
-impl TerminationCause {
-    fn read(bytes: &[u8]) -> TerminationCause
-        requires { length bytes.now ≡ 6 }
-        ensures { result ≡ cause_of bytes.now }
-    {
+impl FixedWidth<6> for TerminationCause {
+    ghost form = { cause_form };
+
+    ghost found = { cause_at };
+
+    fn read(bytes: &[u8], at: usize) -> TerminationCause {
         TerminationCause {
-            source_document: two_at(bytes, 0),
-            cause_code: four_at(bytes, 2),
+            source_document: u16::read(bytes, at),
+            cause_code: u32::read(bytes, at + 2),
         }
     }
 
-    /// Its six bytes.
-    pub fn bytes(&self) -> [u8; 6]
-        ensures { result ≡ cause_form self.now }
-    {
-        let mut out = [0; 6];
-        let at = put(&mut out, 0, &two_bytes(self.source_document));
-        put(&mut out, at, &four_bytes(self.cause_code));
-        out
+    fn to_bytes(&self) -> [u8; 6] {
+        let mut out = Buffer::<6>::new();
+        out.push(&self.source_document.to_bytes());
+        out.push(&self.cause_code.to_bytes());
+        out.into_array()
+    }
+}
+
+impl FixedWidth<20> for TelephoneNumber {
+    ghost form = { λ x. x.0 };
+
+    ghost found = { telephone_at };
+
+    fn read(bytes: &[u8], at: usize) -> TelephoneNumber {
+        TelephoneNumber(part(bytes, at))
+    }
+
+    fn to_bytes(&self) -> [u8; 20] {
+        self.0
+    }
+}
+
+impl FixedWidth<8> for TimeAdjustment {
+    ghost form = { λ x. x.0 };
+
+    ghost found = { adjustment_at };
+
+    fn read(bytes: &[u8], at: usize) -> TimeAdjustment {
+        TimeAdjustment(part(bytes, at))
+    }
+
+    fn to_bytes(&self) -> [u8; 8] {
+        self.0
     }
 }
 
@@ -67,17 +93,17 @@ impl Attributes {
     {
         match number {
             3 => self.endpoint_name = Some(EndpointName::read(value)),
-            4 => self.calling_party_number = Some(TelephoneNumber(whole(value))),
-            5 => self.called_party_number = Some(TelephoneNumber(whole(value))),
-            11 => self.termination_cause = Some(TerminationCause::read(value)),
+            4 => self.calling_party_number = Some(TelephoneNumber::read(value, 0)),
+            5 => self.called_party_number = Some(TelephoneNumber::read(value, 0)),
+            11 => self.termination_cause = Some(TerminationCause::read(value, 0)),
             13 => self.related_call = Some(Bcid::read(value, 0)),
-            16 => self.charge_number = Some(TelephoneNumber(whole(value))),
-            25 => self.routing_number = Some(TelephoneNumber(whole(value))),
-            26 => self.udp_port = Some(four_at(value, 0)),
-            30 => self.service_flow = Some(four_at(value, 0)),
-            37 => self.direction = Some(two_at(value, 0)),
-            38 => self.time_adjustment = Some(TimeAdjustment(whole(value))),
-            50 => self.flow_direction = Some(two_at(value, 0)),
+            16 => self.charge_number = Some(TelephoneNumber::read(value, 0)),
+            25 => self.routing_number = Some(TelephoneNumber::read(value, 0)),
+            26 => self.udp_port = Some(u32::read(value, 0)),
+            30 => self.service_flow = Some(u32::read(value, 0)),
+            37 => self.direction = Some(u16::read(value, 0)),
+            38 => self.time_adjustment = Some(TimeAdjustment::read(value, 0)),
+            50 => self.flow_direction = Some(u16::read(value, 0)),
             _ => {}
         }
     }

@@ -37,7 +37,8 @@ impl<const N: usize> Buffer<N> {
     /// Lays `more` down behind what is there.
     pub fn push(&mut self, more: &[u8])
         requires { length self.old + length more.now ≤ N }
-        ensures { self.new ≡ self.old ++ more.now }
+        ensures len { length self.new ≡ length self.old + length more.now }
+        ensures bytes { self.new ≡ self.old ++ more.now }
     {
         let end = self.len + more.len();
         let bytes = &mut self.bytes[..];
