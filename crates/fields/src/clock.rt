@@ -6,9 +6,9 @@ use crate::digits::pair;
 
 #[derive(Clone, Copy)]
 pub(crate) struct Clock {
-    hour: u32,
-    minute: u32,
-    second: u32,
+    pub(crate) hour: u32,
+    pub(crate) minute: u32,
+    pub(crate) second: u32,
 }
 
 impl Clock {

@@ -1,35 +1,18 @@
 //! A date of the calendar.
 ghost use Rattle.std.specs.Prelude.{◌≡◌, ◌-◌, ◌*◌, ◌≤◌, length, cond};
-ghost use Rattle.fields.specs.Texts.{pair_at};
-ghost use Rattle.fields.specs.Calendar.{leap, days_in, years, months, real, days_to, year};
-
-use crate::digits::pair;
+ghost use Rattle.fields.specs.Calendar.{leap, days_in, years, months, real, days_to};
 
 /// The numbers of a date, whether or not there is such a date.
 #[derive(Clone, Copy)]
 pub(crate) struct Date {
-    year: u32,
-    month: u32,
-    day: u32,
+    pub(crate) year: u32,
+    pub(crate) month: u32,
+    pub(crate) day: u32,
     // What four and two digits can tell, so that the days before it can be counted.
     ghost short: { (year ≤ 230000) × (month ≤ 2277) × (day ≤ 2277) },
 }
 
 impl Date {
-    /// Reads yyyymmdd.
-    pub(crate) fn read(bytes: &[u8]) -> Date
-        requires { 8 ≤ length bytes.now }
-        ensures year { result.year ≡ year bytes.now }
-        ensures month { result.month ≡ pair_at 4 bytes.now }
-        ensures day { result.day ≡ pair_at 6 bytes.now }
-    {
-        Date {
-            year: 100 * pair(bytes, 0) + pair(bytes, 2),
-            month: pair(bytes, 4),
-            day: pair(bytes, 6),
-        }
-    }
-
     /// Whether it is a date of 2000 to 2099.
     pub(crate) fn is_real(&self) -> bool
         ensures { result ≡ real self.now.year self.now.month self.now.day }
@@ -73,15 +56,13 @@ fn is_leap(year: u32) -> bool
 }
 
 fn days_in_year(year: u32) -> u32
-    ensures value { result ≡ cond (leap year) 366 365 }
-    ensures small { result ≤ 366 }
+    ensures { result ≡ cond (leap year) 366 365 }
 {
     if is_leap(year) { 366 } else { 365 }
 }
 
 fn days_in(year: u32, month: u32) -> u32
-    ensures value { result ≡ days_in year month }
-    ensures small { result ≤ 31 }
+    ensures { result ≡ days_in year month }
 {
     match month {
         2 => { if is_leap(year) { 29 } else { 28 } }
