@@ -21,17 +21,23 @@ months y (suc n) = months y n + days_in y (suc n)
 abbrev pub year : List ℕ → ℕ
 year b = 100 * pair_at 0 b + pair_at 2 b
 
+-- a date of 2000 to 2099
+abbrev pub real : ℕ → ℕ → ℕ → Bool
+real y m d = nat_le 2000 y && nat_le y 2099 && nat_le 1 m && nat_le m 12 && nat_le 1 d && nat_le d (days_in y m)
+
 abbrev pub dated : List ℕ → Bool
-dated b =
-    nat_le 2000 (year b) && nat_le (year b) 2099 && nat_le 1 (pair_at 4 b) && nat_le (pair_at 4 b) 12
-    && nat_le 1 (pair_at 6 b) && nat_le (pair_at 6 b) (days_in (year b) (pair_at 4 b))
+dated b = real (year b) (pair_at 4 b) (pair_at 6 b)
 
 -- byte 46 is the full stop before the thousandths
 unfoldable pub timed : List ℕ → Bool
 timed b = digits (take 14 b) && slice_index b 14 == 46 && digits (take 3 (drop 15 b)) && dated b && clock 8 b
 
+-- the whole days before a date, from 1 January 2000 on
+abbrev pub days_to : ℕ → ℕ → ℕ → ℕ
+days_to y m d = years (y - 2000) + months y (m - 1) + (d - 1)
+
 unfoldable pub days_before : List ℕ → ℕ
-days_before b = years (year b - 2000) + months (year b) (pair_at 4 b - 1) + (pair_at 6 b - 1)
+days_before b = days_to (year b) (pair_at 4 b) (pair_at 6 b)
 
 -- days since 1 January 2000, then the time of day
 unfoldable pub milliseconds : List ℕ → ℕ

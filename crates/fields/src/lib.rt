@@ -2,4 +2,7 @@
 #![tactic(auto)]
 
 pub mod calendar;
+mod clock;
+mod date;
+mod digits;
 pub mod texts;

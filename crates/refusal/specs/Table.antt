@@ -2,13 +2,9 @@
 use Rattle.std.specs.Prelude.{ℕ}
 use Rattle.refusal.specs.declared.Place.{Place}
 use Rattle.refusal.specs.declared.Place.TheVariants.{Packet, Attribute, Item, Event, Output}
+use Rattle.refusal.specs.declared.Told.{Told}
 use Rattle.refusal.specs.declared.Fault.{Fault}
 use Rattle.refusal.specs.declared.Fault.TheVariants.{PacketSize, PacketCode, PacketLength, MalformedAttribute, CutItem, UnknownItem, UnknownAttribute, WrongWidth, Misplaced, Repeated, UnknownKind, HeaderForm, MandatoryMissing, OutputTooSmall}
-
-pub record Told : Type 0 where
-  pub number : ℕ
-  pub place : Place
-  pub offset : ℕ
 
 abbrev pub in_place : ℕ → Place → ℕ → Told
 in_place n w p = record { number = n; place = w; offset = p }

@@ -4,6 +4,8 @@
 ghost use Rattle.std.specs.Prelude.{◌≡◌};
 ghost use Rattle.refusal.specs.Table.{told};
 
+mod words;
+
 /// The part of the work that a fault is in.
 #[derive(Clone, Copy, PartialEq, Eq, Debug)]
 pub enum Place {
@@ -47,70 +49,60 @@ pub enum Fault {
     OutputTooSmall,
 }
 
+/// What is told of a fault.
+#[derive(Clone, Copy, PartialEq, Eq, Debug)]
+pub struct Told {
+    pub number: u8,
+    pub place: Place,
+    pub offset: usize,
+}
+
 impl Fault {
+    /// All that is told of the fault.
+    pub fn told(&self) -> Told
+        ensures { result ≡ told self.now }
+    {
+        let (number, place, offset) = match *self {
+            Fault::PacketSize => (1, Place::Packet, 0),
+            Fault::PacketCode => (2, Place::Packet, 0),
+            Fault::PacketLength => (3, Place::Packet, 0),
+            Fault::MalformedAttribute { at } => (4, Place::Attribute, at),
+            Fault::CutItem { at } => (5, Place::Item, at),
+            Fault::UnknownItem { at } => (6, Place::Item, at),
+            Fault::UnknownAttribute { at } => (6, Place::Event, at),
+            Fault::WrongWidth { at } => (7, Place::Event, at),
+            Fault::Misplaced { at } => (8, Place::Event, at),
+            Fault::Repeated { at } => (9, Place::Event, at),
+            Fault::UnknownKind { at } => (10, Place::Event, at),
+            Fault::HeaderForm { at } => (11, Place::Event, at),
+            Fault::MandatoryMissing { at } => (12, Place::Event, at),
+            Fault::OutputTooSmall => (15, Place::Output, 0),
+        };
+        Told {
+            number,
+            place,
+            offset,
+        }
+    }
+
     /// The number under which the fault is told.
     pub fn number(&self) -> u8
         ensures { result ≡ (told self.now).number }
     {
-        match self {
-            Fault::PacketSize => 1,
-            Fault::PacketCode => 2,
-            Fault::PacketLength => 3,
-            Fault::MalformedAttribute { at: _ } => 4,
-            Fault::CutItem { at: _ } => 5,
-            Fault::UnknownItem { at: _ } => 6,
-            Fault::UnknownAttribute { at: _ } => 6,
-            Fault::WrongWidth { at: _ } => 7,
-            Fault::Misplaced { at: _ } => 8,
-            Fault::Repeated { at: _ } => 9,
-            Fault::UnknownKind { at: _ } => 10,
-            Fault::HeaderForm { at: _ } => 11,
-            Fault::MandatoryMissing { at: _ } => 12,
-            Fault::OutputTooSmall => 15,
-        }
+        self.told().number
     }
 
     /// The place that it is in.
     pub fn place(&self) -> Place
         ensures { result ≡ (told self.now).place }
     {
-        match self {
-            Fault::PacketSize => Place::Packet,
-            Fault::PacketCode => Place::Packet,
-            Fault::PacketLength => Place::Packet,
-            Fault::MalformedAttribute { at: _ } => Place::Attribute,
-            Fault::CutItem { at: _ } => Place::Item,
-            Fault::UnknownItem { at: _ } => Place::Item,
-            Fault::UnknownAttribute { at: _ } => Place::Event,
-            Fault::WrongWidth { at: _ } => Place::Event,
-            Fault::Misplaced { at: _ } => Place::Event,
-            Fault::Repeated { at: _ } => Place::Event,
-            Fault::UnknownKind { at: _ } => Place::Event,
-            Fault::HeaderForm { at: _ } => Place::Event,
-            Fault::MandatoryMissing { at: _ } => Place::Event,
-            Fault::OutputTooSmall => Place::Output,
-        }
+        self.told().place
     }
 
     /// Where it is, from the delivery's first byte.
     pub fn offset(&self) -> usize
         ensures { result ≡ (told self.now).offset }
     {
-        match self {
-            Fault::PacketSize => 0,
-            Fault::PacketCode => 0,
-            Fault::PacketLength => 0,
-            Fault::MalformedAttribute { at } => *at,
-            Fault::CutItem { at } => *at,
-            Fault::UnknownItem { at } => *at,
-            Fault::UnknownAttribute { at } => *at,
-            Fault::WrongWidth { at } => *at,
-            Fault::Misplaced { at } => *at,
-            Fault::Repeated { at } => *at,
-            Fault::UnknownKind { at } => *at,
-            Fault::HeaderForm { at } => *at,
-            Fault::MandatoryMissing { at } => *at,
-            Fault::OutputTooSmall => 0,
-        }
+        self.told().offset
     }
 }

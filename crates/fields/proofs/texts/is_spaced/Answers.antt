@@ -1,16 +1,19 @@
-use Rattle.std.proofs.Common.{◌≤◌, length, sym, ap, ◌∙◌, rules}
-use Rattle.std.proofs.lemmas.List.{drop_all, take_rest}
-use Rattle.fields.specs.Texts.{digits, spaced}
-use Rattle.fields.proofs.Walks.{one_space, no_space}
+use Rattle.std.proofs.Common.{rules, tests, ◌≡◌, sym, ap, ◌∙◌, Some}
+use Rattle.std.proofs.lemmas.Iterator.{YieldsList-from_slice}
+use Rattle.std.proofs.lemmas.Iterator.Search.{position_from_yields_List}
+use Rattle.std.proofs.lemmas.List.{take_rest}
+use Rattle.std.specs.List.{position}
+use Rattle.fields.specs.Texts.{digits}
+use Rattle.fields.proofs.Runs.{no_space, digits_from, all_spaces}
 use Rattle.fields.proofs.texts.is_spaced.Goals as goal
 
-pub returns-then-bytes-i-ne32 : goal.returns-then-bytes-i-ne32
-returns-then-bytes-i-ne32 c =
-    c.is_digits.ensures ∙ ap digits (take_rest c.args.bytes.now c.loop-i.i)
-    ∙ no_space c.args.bytes.now c.loop-i.i _ (search rules) (search rules) c.loop-i.invariant
+pub returns-in-Some : goal.returns-in-Some
+returns-in-Some c =
+    let e : c.position.result ≡ position no_space c.args.bytes.now = position_from_yields_List no_space _ _ c.position.result c.position.ensures.ran (YieldsList-from_slice c.args.bytes.now cc) (λ x b q k. search (rules, tests)) in
+    let at : position no_space c.args.bytes.now ≡ Some c.in-Some.start = cc in
+    c.is_digits.ensures ∙ ap digits (take_rest c.args.bytes.now c.in-Some.start) ∙ sym (digits_from c.args.bytes.now c.in-Some.start at)
 
-pub loop-i-preserved : goal.loop-i-preserved
-loop-i-preserved c = one_space c.args.bytes.now c.loop-i.i _ (search rules) (search rules) c.loop-i.invariant
-
-pub returns : goal.returns
-returns c = let h : length c.args.bytes.now ≤ c.loop-i.i = search rules in ap spaced (sym (drop_all c.loop-i.i c.args.bytes.now h)) ∙ c.loop-i.invariant
+pub returns-in-None : goal.returns-in-None
+returns-in-None c =
+    let e : c.position.result ≡ position no_space c.args.bytes.now = position_from_yields_List no_space _ _ c.position.result c.position.ensures.ran (YieldsList-from_slice c.args.bytes.now cc) (λ x b q k. search (rules, tests)) in
+    sym (all_spaces c.args.bytes.now cc)
