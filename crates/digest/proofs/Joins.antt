@@ -1,6 +1,6 @@
 -- Blocks taken in one after another.
-use Rattle.std.proofs.Common.{◌≡◌, ℕ, zero, suc, ◌+◌, ◌-◌, ◌*◌, ◌/◌, ◌%◌, ◌<◌, ◌≤◌, List, [], ◌∷◌, ◌++◌, length, take, drop, sym, refl, ap, ◌∙◌, suc-add, zero-add, arith, length-append, length-drop, take-append-drop}
-use Rattle.std.proofs.lemmas.List.{take-append-le, drop-append-le, drop-drop, length-take-le}
+use Rattle.std.proofs.Common.{◌≡◌, ℕ, zero, suc, ◌+◌, ◌*◌, ◌/◌, ◌%◌, ◌≤◌, List, ◌++◌, length, take, drop, sym, refl, ap, ◌∙◌, suc-add, zero-add, arith, length-append, length-drop, take-append-drop}
+use Rattle.std.proofs.lemmas.List.{nil_from_length, take-append-le, drop-append-le, length-take-le}
 use Rattle.std.specs.List.{fold}
 use Rattle.std.specs.Simd.{first_chunks}
 use Rattle.digest.specs.Rounds.{mixed}
@@ -14,15 +14,11 @@ unfolding after_blocks
 blocks_are zero m w = refl
 blocks_are (suc n) m w = blocks_are n (drop 64 m) (mixed (take 64 m) w)
 
-nothing : (p : List ℕ) → length p ≡ 0 → p ≡ []
-nothing [] e = refl
-nothing (x ∷ p) e = absurd (omega arith)
-
 join : (n k : ℕ) (p q : List ℕ) (w : State) → length p ≡ 64 * n → after_blocks (n + k) (p ++ q) w ≡ after_blocks k q (after_blocks n p w)
 unfolding after_blocks
 join zero k p q w e =
     let z : length p ≡ 0 = omega arith in
-    ap (λ i. after_blocks i (p ++ q) w) (zero-add k) ∙ ap (λ z. after_blocks k (z ++ q) w) (nothing p z)
+    ap (λ i. after_blocks i (p ++ q) w) (zero-add k) ∙ ap (λ z. after_blocks k (z ++ q) w) (nil_from_length p z)
 join (suc n) k p q w e =
     let h : 64 ≤ length p = omega arith in
     let f : length (drop 64 p) ≡ 64 * n = omega (arith, length-drop 64 p) in

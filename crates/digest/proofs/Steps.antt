@@ -1,10 +1,10 @@
 -- The 64 operations by their number, and the rounds.
-use Rattle.std.proofs.Common.{◌≡◌, ℕ, suc, ◌+◌, ◌-◌, ◌*◌, ◌/◌, ◌%◌, ◌^◌, ◌<◌, ◌≤◌, true, eqb, ltb, List, take, drop, length, sym, refl, ap, subst, ◌∙◌, arith}
+use Rattle.std.proofs.Common.{◌≡◌, ℕ, suc, ◌+◌, ◌-◌, ◌%◌, ◌<◌, ◌≤◌, true, eqb, ltb, List, take, drop, sym, refl, ap, ◌∙◌, arith}
 use Rattle.std.proofs.lemmas.Bool.{agree_below, agree_below_at, eqb-true, ltb-true}
 use Rattle.std.proofs.lemmas.List.{drop_more, get_or-map}
 use Rattle.std.specs.Int.{rotate_left, w32}
 use Rattle.digest.specs.Words.{plus, turned}
-use Rattle.digest.specs.Rounds.{Rows, sine, round_1, round_2, round_3, round_4, operation, round}
+use Rattle.digest.specs.Rounds.{Rows, sine, word, round_1, round_2, round_3, round_4, operation, round}
 use Rattle.digest.specs.Operations.{rows, index_of, shift_of, sine_of}
 use Rattle.digest.specs.declared.state.State.{State}
 
@@ -28,8 +28,8 @@ turns x s l h =
     let f : (32 - s) % 32 ≡ 32 - s = omega arith in
     rw (e, f)
 
--- one operation more of a round
-pub next : (fn : ℕ → ℕ → ℕ → ℕ) (m : List ℕ) (w : State) (i n : ℕ) → i < 64
+-- the rest of a round, from operation i on
+next : (fn : ℕ → ℕ → ℕ → ℕ) (m : List ℕ) (w : State) (i n : ℕ) → i < 64
     → round fn (take (suc n) (drop i rows)) m w
     ≡ round fn (take n (drop (i + 1) rows)) m (operation fn m (index_of i) (shift_of i) (sine_of i) w)
 unfolding round index_of shift_of sine_of rows round_1 round_2 round_3 round_4
@@ -40,6 +40,26 @@ next fn m w i n h =
       get_or-map {Y = ℕ} (λ row. row.1) rows i (0, 0, 0) 0 h,
       get_or-map {Y = ℕ} (λ row. sine row.2) rows i (0, 0, 0) 0 h,
     ) refl
+
+-- one operation more
+pub again : (fn : ℕ → ℕ → ℕ → ℕ) (m : List ℕ) (w z : State) (i end f k x s t r : ℕ) → i < end → i < 64
+    → f ≡ fn w.b w.c w.d → k ≡ index_of i → x ≡ word m k → t ≡ sine_of i → s ≡ shift_of i → 0 < s → s < 32
+    → r ≡ rotate_left w32 (plus (plus (plus w.a f) x) t) s → round fn (take (end - i) (drop i rows)) m w ≡ z
+    → round fn (take (end - (i + 1)) (drop (i + 1) rows)) m (record { a = w.d; b = plus w.b r; c = w.b; d = w.c }) ≡ z
+unfolding operation
+again fn m w z i end f k x s t r le h ef ek ex et es low high er inv =
+    let n = end - (i + 1) in
+    let e : end - i ≡ suc n = omega arith in
+    ap (λ v. round fn (take n (drop (i + 1) rows)) m (record { a = w.d; b = plus w.b v; c = w.b; d = w.c }))
+    (er ∙ turns (plus (plus (plus w.a f) x) t) s low high ∙ simp (ef, ek, ex, et, es))
+    ∙ sym (next fn m w i n h) ∙ ap (λ j. round fn (take j (drop i rows)) m w) (sym e) ∙ inv
+
+-- none left
+pub ends : (fn : ℕ → ℕ → ℕ → ℕ) (m : List ℕ) (w z : State) (i end : ℕ) → end ≤ i → round fn (take (end - i) (drop i rows)) m w ≡ z → w ≡ z
+unfolding round
+ends fn m w z i end h inv =
+    let e : end - i ≡ 0 = omega arith in
+    ap (λ j. round fn (take j (drop i rows)) m w) (sym e) ∙ inv
 
 -- a rule for the word that an operation adds, tried at each of the sixteen operations from `first` on
 pub picks : (first : ℕ) (p : ℕ → ℕ) → agree_below (λ j. eqb (p (first + j)) (index_of (first + j))) (λ j. true) 16 ≡ true

@@ -11,7 +11,7 @@ mod state;
 mod tables;
 
 use blocks::absorb;
-use padding::close;
+use padding::pad;
 use state::State;
 
 /// Writes the digest of `message` to `out`.
@@ -19,7 +19,8 @@ pub fn digest(message: &[u8], out: &mut [u8; 16])
     ensures { out.new ≡ md5 message.now }
 {
     let (blocks, rest) = message.as_chunks::<64>();
-    let tail = close(rest, message.len());
+    // What is left is less than a block, and takes up to two blocks with its padding.
+    let tail = pad(rest, message.len());
     let (last, _) = tail.as_bytes().as_chunks::<64>();
     *out = absorb(absorb(State::first(), blocks), last).to_bytes();
 }

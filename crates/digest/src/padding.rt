@@ -26,7 +26,7 @@ fn bits(len: usize) -> [u8; 8]
 
 /// The last bytes of a message of `len` bytes, with the padding after them: one block, or two where the first has no room
 /// for the length.
-pub fn close(rest: &[u8], len: usize) -> Buffer<128>
+pub fn pad(rest: &[u8], len: usize) -> Buffer<128>
     requires { length rest.now < 64 }
     ensures { result ≡ closed rest.now len }
 {

@@ -1,7 +1,7 @@
 //! One block of 64 bytes, taken into the state.
-ghost use Rattle.std.specs.Prelude.{◌≡◌, ℕ, ◌+◌, ◌<◌, ◌≤◌, take, drop};
+ghost use Rattle.std.specs.Prelude.{◌≡◌, ℕ, ◌+◌, ◌<◌, ◌≤◌};
 ghost use Rattle.digest.specs.Rounds.{word, round, mixed};
-ghost use Rattle.digest.specs.Operations.{rows, index_of};
+ghost use Rattle.digest.specs.Operations.{round_from, Picks, Computes};
 
 use crate::state::State;
 use crate::tables::{shift, sine};
@@ -15,8 +15,8 @@ fn word_at(block: &[u8; 64], k: usize) -> u32
     u32::from_le_bytes(part(block, 4 * k))
 }
 
-/// A round: the sixteen operations from number `first` on. Each of them takes `f` of three words, and adds the word of the
-/// block that `index` gives for the number of the operation.
+/// A round: the sixteen operations from number `first` on. Each takes `f` of three words of the state, and adds the word of
+/// the block that `index` gives for the number of the operation.
 fn round<F: Fn(u32, u32, u32) -> u32, P: Fn(usize) -> usize>(
     mut state: State,
     block: &[u8; 64],
@@ -25,22 +25,22 @@ fn round<F: Fn(u32, u32, u32) -> u32, P: Fn(usize) -> usize>(
     index: P,
 ) -> State
     requires within { first + 16 ≤ 64 }
-    requires called { F.IsAlwaysCallable f }
-    requires picked { (i : ℕ) → i < 64 → P.pre index i }
-    requires word { (i k : ℕ) → first ≤ i → i < first + 16 → P.post index i k → k ≡ index_of i }
-    ensures { (fn_of : ℕ → ℕ → ℕ → ℕ) → ((x y z r : ℕ) → F.post f x y z r → r ≡ fn_of x y z) → result ≡ round fn_of (take 16 (drop first rows)) block.now state }
+    requires function { F.IsAlwaysCallable f }
+    requires rule { (i : ℕ) → i < 64 → P.pre index i }
+    requires picks { Picks (P.post index) first }
+    ensures { (fn : ℕ → ℕ → ℕ → ℕ) → Computes (F.post f) fn → result ≡ round fn (round_from first) block.now state }
 {
     for i in first..first + 16 {
-        let sum = state
-            .a
-            .wrapping_add(f(state.b, state.c, state.d))
+        let State { a, b, c, d } = state;
+        let sum = a
+            .wrapping_add(f(b, c, d))
             .wrapping_add(word_at(block, index(i)))
             .wrapping_add(sine(i));
         state = State {
-            a: state.d,
-            b: state.b.wrapping_add(sum.rotate_left(shift(i))),
-            c: state.b,
-            d: state.c,
+            a: d,
+            b: b.wrapping_add(sum.rotate_left(shift(i))),
+            c: b,
+            d: c,
         };
     }
     state

@@ -1,6 +1,6 @@
 use Rattle.std.proofs.Common.{◌≡◌, ◌+◌, ◌-◌, ◌%◌, ◌<◌, ◌++◌, length, ap, ◌∙◌, arith}
 use Rattle.digest.proofs.Fills.{laid}
-use Rattle.digest.proofs.padding.close.Goals as goal
+use Rattle.digest.proofs.padding.pad.Goals as goal
 
 pub returns : goal.returns
 returns c =
