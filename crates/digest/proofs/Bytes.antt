@@ -1,39 +1,32 @@
 -- Four bytes as a number, and numbers as four or eight bytes.
-use Rattle.std.proofs.Common.{◌≡◌, ℕ, ◌+◌, ◌*◌, ◌/◌, ◌%◌, ◌<◌, ◌≤◌, List, [], ◌∷◌, length, get_or, take, drop, sym, refl, ap, ◌∙◌, add_assoc, arith}
-use Rattle.std.proofs.lemmas.List.{drop_more}
-use Rattle.std.proofs.lemmas.Nat.{shr-shr}
+use Rattle.std.proofs.Common.{◌≡◌, ℕ, zero, suc, ◌^◌, ◌+◌, ◌*◌, ◌/◌, ◌%◌, List, [], ◌∷◌, length, get_or, sym, refl, ap, ◌∙◌, arith}
+use Rattle.std.specs.Int.{byte_at, bytes_low_first}
+use Rattle.std.proofs.Math.Nat.{pow-suc, div-div-eq-div-mul, div-one}
 use Rattle.digest.specs.Words.{low_first, number}
-use Rattle.digest.specs.Rounds.{word}
 
-take_two : (xs : List ℕ) (i : ℕ) → i + 2 ≤ length xs → take 2 (drop i xs) ≡ get_or xs i 0 ∷ get_or xs (i + 1) 0 ∷ []
-take_two xs i h =
-    let a : i < length xs = omega arith in
-    let b : i + 1 < length xs = omega arith in
-    ap (take 2) (drop_more xs i 0 a ∙ ap (λ z. get_or xs i 0 ∷ z) (drop_more xs (i + 1) 0 b))
+-- four bytes, the low-order byte first
+pub number_is : (xs : List ℕ) → length xs ≡ 4
+    → get_or xs 0 0 + get_or xs 1 0 * 256 + get_or xs 2 0 * 65536 + get_or xs 3 0 * 16777216 ≡ number xs
+unfolding number
+number_is [] e = absurd (omega arith)
+number_is (a ∷ []) e = absurd (omega arith)
+number_is (a ∷ (b ∷ [])) e = absurd (omega arith)
+number_is (a ∷ (b ∷ (c ∷ []))) e = absurd (omega arith)
+number_is (a ∷ (b ∷ (c ∷ (d ∷ [])))) e = omega arith
+number_is (a ∷ (b ∷ (c ∷ (d ∷ (f ∷ xs))))) e = absurd (omega arith)
 
-take_four : (xs : List ℕ) (i : ℕ) → i + 4 ≤ length xs
-    → take 4 (drop i xs) ≡ get_or xs i 0 ∷ get_or xs (i + 1) 0 ∷ get_or xs (i + 2) 0 ∷ get_or xs (i + 3) 0 ∷ []
-take_four xs i h =
-    let a : i < length xs = omega arith in
-    let b : i + 1 < length xs = omega arith in
-    let f : i + 2 + 2 ≤ length xs = omega arith in
-    ap (take 4) (drop_more xs i 0 a ∙ ap (λ z. get_or xs i 0 ∷ z) (drop_more xs (i + 1) 0 b))
-    ∙ rw (add_assoc i 1 1) (ap (λ z. get_or xs i 0 ∷ get_or xs (i + 1) 0 ∷ z) (take_two xs (i + 2) f ∙ rw (add_assoc i 2 1) refl))
+byte_is : (i n : ℕ) → byte_at i n ≡ n / 256 ^ i % 256
+byte_is zero n = ap (λ m. m % 256) (sym (div-one n))
+byte_is (suc i) n = refl
 
-pub word_is : (xs : List ℕ) (k n : ℕ) → 4 * k + 4 ≤ length xs
-    → n ≡ get_or xs (4 * k) 0 + get_or xs (4 * k + 1) 0 * 256 + get_or xs (4 * k + 2) 0 * 65536 + get_or xs (4 * k + 3) 0 * 16777216
-    → n ≡ word xs k
-unfolding word number
-word_is xs k n h e =
-    let f : n ≡ number (get_or xs (4 * k) 0 ∷ get_or xs (4 * k + 1) 0 ∷ get_or xs (4 * k + 2) 0 ∷ get_or xs (4 * k + 3) 0 ∷ []) = omega arith in
-    f ∙ ap number (sym (take_four xs (4 * k) h))
-
-pub four_is : (n : ℕ) → n % 256 ∷ n / 256 % 256 ∷ n / 65536 % 256 ∷ n / 16777216 % 256 ∷ [] ≡ low_first 4 n
+-- the bytes of a number from the i-th on
+from_byte : (k i n : ℕ) → bytes_low_first i k n ≡ low_first k (n / 256 ^ i)
 unfolding low_first
-four_is n = simp (shr-shr n 8 8, shr-shr n 16 8)
+from_byte zero i n = refl
+from_byte (suc k) i n =
+    ap (λ b. b ∷ bytes_low_first (suc i) k n) (byte_is i n)
+    ∙ ap (λ bs. n / 256 ^ i % 256 ∷ bs) (from_byte k (suc i) n ∙ ap (low_first k) (ap (λ p. n / p) (pow-suc 256 i) ∙ sym (div-div-eq-div-mul n (256 ^ i) 256)))
 
-pub eight_is : (n : ℕ)
-    → n % 256 ∷ n / 256 % 256 ∷ n / 65536 % 256 ∷ n / 16777216 % 256 ∷ n / 4294967296 % 256 ∷ n / 1099511627776 % 256 ∷ n / 281474976710656 % 256 ∷ n / 72057594037927936 % 256 ∷ []
-    ≡ low_first 8 n
-unfolding low_first
-eight_is n = simp (shr-shr n 8 8, shr-shr n 16 8, shr-shr n 24 8, shr-shr n 32 8, shr-shr n 40 8, shr-shr n 48 8)
+-- what `to_le_bytes` gives
+pub bytes_are : (k n : ℕ) → bytes_low_first 0 k n ≡ low_first k n
+bytes_are k n = from_byte k 0 n ∙ ap (low_first k) (div-one n)

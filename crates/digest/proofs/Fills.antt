@@ -1,5 +1,6 @@
 -- The zero bytes of the padding.
-use Rattle.std.proofs.Common.{◌≡◌, ℕ, zero, suc, ◌+◌, ◌-◌, ◌*◌, ◌%◌, ◌^◌, ◌<◌, ◌≤◌, List, [], ◌∷◌, ◌++◌, length, take, replicate, sym, refl, ap, ◌∙◌, append_assoc, append-nil, le_of_suc-le-suc, not-suc-le-zero, arith, length-append}
+use Rattle.std.proofs.Common.{◌≡◌, ℕ, zero, suc, ◌+◌, ◌-◌, ◌*◌, ◌%◌, ◌^◌, ◌<◌, ◌≤◌, List, [], ◌∷◌, ◌++◌, length, take, replicate, sym, ap, ◌∙◌, append_assoc, append-nil, not-suc-le-zero, arith, length-append}
+use Rattle.std.proofs.lemmas.List.{take-replicate}
 use Rattle.std.proofs.lemmas.Bool.{cond-true, cond-false, eq-eqb, ne_eqb}
 use Rattle.digest.specs.Words.{low_first}
 use Rattle.digest.specs.Padding.{filled, closed}
@@ -36,19 +37,14 @@ closed_front p m n h =
     ∙ ap (λ z. z ++ low_first 8 (n * 8 % 2 ^ 64)) (filled_front p (m ++ 128 ∷ []) h)
     ∙ append_assoc p (filled 63 (m ++ 128 ∷ [])) (low_first 8 (n * 8 % 2 ^ 64))
 
-take_replicate : (k n x : ℕ) → k ≤ n → take k (replicate n x) ≡ replicate k x
-take_replicate zero n x h = refl
-take_replicate (suc k) zero x h = absurd (not-suc-le-zero h)
-take_replicate (suc k) (suc n) x h = ap (λ z. x ∷ z) (take_replicate k n x (le_of_suc-le-suc h))
-
 -- the parts of the padding, laid one after another
-pub laid : (m : List ℕ) (k n : ℕ) {t u v w b : List ℕ} → k < 64 → (length m + 1 + k) % 64 ≡ 56 → t ≡ m → u ≡ t ++ 128 ∷ []
+pub laid : (m : List ℕ) (k n : ℕ) {t u v w b : List ℕ} → k < 64 → (length m + 1 + k) % 64 ≡ 56 → t ≡ [] ++ m → u ≡ t ++ 128 ∷ []
     → v ≡ u ++ take k (replicate 64 0) → w ≡ v ++ b → b ≡ low_first 8 (n * 8 % 2 ^ 64) → w ≡ closed m n
 unfolding closed
 laid m k n h e p q r s f =
     let a : k ≤ 63 = omega arith in
     let g : k ≤ 64 = omega arith in
     let i : (length (m ++ 128 ∷ []) + k) % 64 ≡ 56 = omega (arith, length-append m (128 ∷ [])) in
-    let x = take_replicate k 64 0 g in
+    let x = take-replicate {X = ℕ} k 64 0 g in
     let y = filled_is 63 k (m ++ 128 ∷ []) a h i in
     cc

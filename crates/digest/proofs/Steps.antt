@@ -1,61 +1,71 @@
--- The 64 operations by their number, and the four rounds.
-use Rattle.std.proofs.Common.{◌≡◌, ℕ, zero, suc, ◌+◌, ◌-◌, ◌*◌, ◌/◌, ◌%◌, ◌^◌, ◌<◌, cond, eqb, ltb, List, sym, refl, ap, ◌∙◌, add-one, arith, eqb→eq, ltb→lt}
-use lib.Bits.{bit_or}
-use Rattle.digest.proofs.Below.{at}
+-- The 64 operations by their number, and the rounds.
+use Rattle.std.proofs.Common.{◌≡◌, ℕ, suc, ◌+◌, ◌-◌, ◌%◌, ◌<◌, ◌≤◌, true, eqb, ltb, List, take, drop, sym, refl, ap, ◌∙◌, arith}
+use Rattle.std.proofs.lemmas.Bool.{agree_below, agree_below_at, eqb-true, ltb-true}
+use Rattle.std.proofs.lemmas.List.{drop_more, get_or-map}
+use Rattle.std.specs.Int.{rotate_left, w32}
 use Rattle.digest.specs.Words.{plus, turned}
-use Rattle.digest.specs.Rounds.{sines, round_1, round_2, round_3, round_4, word, operation, round, four_rounds, mixed}
-use Rattle.digest.specs.Operations.{rows, index_of, shift_of, sine_of, function_of}
+use Rattle.digest.specs.Rounds.{Rows, sine, word, round_1, round_2, round_3, round_4, operation, round}
+use Rattle.digest.specs.Operations.{rows, index_of, shift_of, sine_of}
 use Rattle.digest.specs.declared.state.State.{State}
-
--- the rule by which the code finds the word that an operation adds
-abbrev pub rule : ℕ → ℕ
-rule i = cond (ltb i 16) i (cond (ltb i 32) ((5 * i + 1) % 16) (cond (ltb i 48) ((3 * i + 5) % 16) (7 * i % 16)))
-
-pub rule_is : (i : ℕ) → i < 64 → rule i ≡ index_of i
-unfolding index_of rows round_1 round_2 round_3 round_4
-rule_is i h = eqb→eq (rule i) (index_of i) (at (λ k. eqb (rule k) (index_of k)) 64 tt i h)
 
 pub shift_above : (i : ℕ) → i < 64 → 0 < shift_of i
 unfolding shift_of rows round_1 round_2 round_3 round_4
-shift_above i h = ltb→lt 0 (shift_of i) (at (λ k. ltb 0 (shift_of k)) 64 tt i h)
+shift_above i h = ltb-true 0 (shift_of i) (agree_below_at (λ k. ltb 0 (shift_of k)) (λ k. true) 64 i refl h)
 
 pub shift_below : (i : ℕ) → i < 64 → shift_of i < 32
 unfolding shift_of rows round_1 round_2 round_3 round_4
-shift_below i h = ltb→lt (shift_of i) 32 (at (λ k. ltb (shift_of k) 32) 64 tt i h)
+shift_below i h = ltb-true (shift_of i) 32 (agree_below_at (λ k. ltb (shift_of k) 32) (λ k. true) 64 i refl h)
 
--- the first n operations
-unfoldable pub steps : ℕ → List ℕ → State → State
-steps zero block w = w
-steps (suc n) block w = operation (function_of n) block (index_of n) (shift_of n) (sine_of n) (steps n block w)
-
-pub steps_all : (block : List ℕ) (w : State) → steps 64 block w ≡ four_rounds block w
-unfolding steps function_of index_of shift_of sine_of rows round_1 round_2 round_3 round_4 sines round four_rounds
-steps_all block w = refl
+pub index_below : (i : ℕ) → i < 64 → index_of i < 16
+unfolding index_of rows round_1 round_2 round_3 round_4
+index_below i h = ltb-true (index_of i) 16 (agree_below_at (λ k. ltb (index_of k) 16) (λ k. true) 64 i refl h)
 
 -- what `rotate_left` gives is the RFC's turn
-pub turns : (x s : ℕ) → 0 < s → s < 32 → bit_or ((x * 2 ^ (s % 32)) % 2 ^ 32) (x / 2 ^ ((32 - s % 32) % 32)) ≡ turned x s
+pub turns : (x s : ℕ) → 0 < s → s < 32 → rotate_left w32 x s ≡ turned x s
 unfolding turned
 turns x s l h =
     let e : s % 32 ≡ s = omega arith in
     let f : (32 - s) % 32 ≡ 32 - s = omega arith in
     rw (e, f)
 
-abbrev pub of : ℕ → ℕ → ℕ → ℕ → State
-of a b c d = record { a = a; b = b; c = c; d = d }
+-- the rest of a round, from operation i on
+next : (fn : ℕ → ℕ → ℕ → ℕ) (m : List ℕ) (w : State) (i n : ℕ) → i < 64
+    → round fn (take (suc n) (drop i rows)) m w
+    ≡ round fn (take n (drop (i + 1) rows)) m (operation fn m (index_of i) (shift_of i) (sine_of i) w)
+unfolding round index_of shift_of sine_of rows round_1 round_2 round_3 round_4
+next fn m w i n h =
+    ap (λ (z : Rows). round fn (take (suc n) z) m w) (drop_more rows i (0, 0, 0) h)
+    ∙ rw (
+      get_or-map {Y = ℕ} (λ row. row.0) rows i (0, 0, 0) 0 h,
+      get_or-map {Y = ℕ} (λ row. row.1) rows i (0, 0, 0) 0 h,
+      get_or-map {Y = ℕ} (λ row. sine row.2) rows i (0, 0, 0) 0 h,
+    ) refl
 
 -- one operation more
-pub again : (m : List ℕ) (w : State) (i a b c d f k x s t r : ℕ) → of a b c d ≡ steps i m w
-    → f ≡ function_of i b c d → k ≡ index_of i → x ≡ word m k → t ≡ sine_of i → s ≡ shift_of i → 0 < s → s < 32
-    → r ≡ bit_or ((plus (plus (plus a f) x) t * 2 ^ (s % 32)) % 2 ^ 32) (plus (plus (plus a f) x) t / 2 ^ ((32 - s % 32) % 32))
-    → of d (plus b r) b c ≡ steps (i + 1) m w
-unfolding steps operation
-again m w i a b c d f k x s t r inv ef ek ex et es l h er =
-    ap (λ z. of d (plus b z) b c) (er ∙ turns (plus (plus (plus a f) x) t) s l h ∙ simp (ef, ex, ek, et, es))
-    ∙ ap (operation (function_of i) m (index_of i) (shift_of i) (sine_of i)) inv ∙ ap (λ n. steps n m w) (sym (add-one i))
+pub again : (fn : ℕ → ℕ → ℕ → ℕ) (m : List ℕ) (w z : State) (i end f k x s t r : ℕ) → i < end → i < 64
+    → f ≡ fn w.b w.c w.d → k ≡ index_of i → x ≡ word m k → t ≡ sine_of i → s ≡ shift_of i → 0 < s → s < 32
+    → r ≡ rotate_left w32 (plus (plus (plus w.a f) x) t) s → round fn (take (end - i) (drop i rows)) m w ≡ z
+    → round fn (take (end - (i + 1)) (drop (i + 1) rows)) m (record { a = w.d; b = plus w.b r; c = w.b; d = w.c }) ≡ z
+unfolding operation
+again fn m w z i end f k x s t r le h ef ek ex et es low high er inv =
+    let n = end - (i + 1) in
+    let e : end - i ≡ suc n = omega arith in
+    ap (λ v. round fn (take n (drop (i + 1) rows)) m (record { a = w.d; b = plus w.b v; c = w.b; d = w.c }))
+    (er ∙ turns (plus (plus (plus w.a f) x) t) s low high ∙ simp (ef, ek, ex, et, es))
+    ∙ sym (next fn m w i n h) ∙ ap (λ j. round fn (take j (drop i rows)) m w) (sym e) ∙ inv
 
-pub ends : (m : List ℕ) (w : State) (i a b c d : ℕ) → i ≡ 64 → of a b c d ≡ steps i m w
-    → of (plus a w.a) (plus b w.b) (plus c w.c) (plus d w.d) ≡ mixed m w
-unfolding mixed
-ends m w i a b c d e inv =
-    ap (λ z. of (plus z.a w.a) (plus z.b w.b) (plus z.c w.c) (plus z.d w.d))
-    (inv ∙ ap (λ n. steps n m w) e ∙ steps_all m w)
+-- none left
+pub ends : (fn : ℕ → ℕ → ℕ → ℕ) (m : List ℕ) (w z : State) (i end : ℕ) → end ≤ i → round fn (take (end - i) (drop i rows)) m w ≡ z → w ≡ z
+unfolding round
+ends fn m w z i end h inv =
+    let e : end - i ≡ 0 = omega arith in
+    ap (λ j. round fn (take j (drop i rows)) m w) (sym e) ∙ inv
+
+-- a rule for the word that an operation adds, tried at each of the sixteen operations from `first` on
+pub picks : (first : ℕ) (p : ℕ → ℕ) → agree_below (λ j. eqb (p (first + j)) (index_of (first + j))) (λ j. true) 16 ≡ true
+    → (i : ℕ) → first ≤ i → i < first + 16 → p i ≡ index_of i
+picks first p e i l h =
+    let b : i - first < 16 = omega arith in
+    let s : first + (i - first) ≡ i = omega arith in
+    rw (← s) (eqb-true (p (first + (i - first))) (index_of (first + (i - first)))
+    (agree_below_at (λ j. eqb (p (first + j)) (index_of (first + j))) (λ j. true) 16 (i - first) e b))

@@ -9,7 +9,6 @@ mod padding;
 mod rounds;
 mod state;
 mod tables;
-mod writing;
 
 use blocks::absorb;
 use padding::pad;
@@ -19,11 +18,9 @@ use state::State;
 pub fn digest(message: &[u8], out: &mut [u8; 16])
     ensures { out.new ≡ md5 message.now }
 {
-    let len = message.len();
-    let whole = len - len % 64;
-    let state = absorb(State::first(), &message[0..whole]);
+    let (blocks, rest) = message.as_chunks::<64>();
     // What is left is less than a block, and takes up to two blocks with its padding.
-    let mut tail = [0; 128];
-    let size = pad(&mut tail, &message[whole..len], len);
-    absorb(state, &tail[0..size]).write(out);
+    let tail = pad(rest, message.len());
+    let (last, _) = tail.as_bytes().as_chunks::<64>();
+    *out = absorb(absorb(State::first(), blocks), last).to_bytes();
 }

@@ -1,9 +1,9 @@
 //! The end of a message, padded to whole blocks: steps 1 and 2 of RFC 1321.
-ghost use Rattle.std.specs.Prelude.{◌≡◌, ℕ, ◌+◌, ◌*◌, ◌%◌, ◌^◌, ◌<◌, ◌≤◌, length, take};
+ghost use Rattle.std.specs.Prelude.{◌≡◌, ℕ, ◌+◌, ◌*◌, ◌%◌, ◌^◌, ◌<◌, ◌≤◌, length};
 ghost use Rattle.digest.specs.Words.{low_first};
 ghost use Rattle.digest.specs.Padding.{closed};
 
-use wire::put;
+use wire::Buffer;
 
 const ZEROS: [u8; 64] = [0; 64];
 
@@ -24,16 +24,17 @@ fn bits(len: usize) -> [u8; 8]
     len.wrapping_mul(8).to_le_bytes()
 }
 
-/// Lays the last bytes of a message of `len` bytes into `tail`, with the padding after them, and says how many bytes
-/// that makes: one block, or two where the first has no room for the length.
-pub fn pad(tail: &mut [u8; 128], rest: &[u8], len: usize) -> usize
+/// The last bytes of a message of `len` bytes, with the padding after them: one block, or two where the first has no room
+/// for the length.
+pub fn pad(rest: &[u8], len: usize) -> Buffer<128>
     requires { length rest.now < 64 }
-    ensures size { result ≤ 128 }
-    ensures bytes { take result tail.new ≡ closed rest.now len }
+    ensures { result ≡ closed rest.now len }
 {
-    let at = put(tail, 0, rest);
-    let at = put(tail, at, &[0x80]);
-    let end = zeros_end(at);
-    let at = put(tail, at, &ZEROS[0..end - at]);
-    put(tail, at, &bits(len))
+    let at = rest.len() + 1;
+    let mut tail = Buffer::new();
+    tail.push(rest);
+    tail.push(&[0x80]);
+    tail.push(&ZEROS[..zeros_end(at) - at]);
+    tail.push(&bits(len));
+    tail
 }

@@ -2,8 +2,7 @@
 ghost use Rattle.std.specs.Prelude.{◌≡◌};
 ghost use Rattle.digest.specs.Md5.{start, written};
 
-use crate::writing::four;
-use wire::put;
+use wire::Buffer;
 
 /// The words A, B, C and D of RFC 1321.
 #[derive(Clone, Copy)]
@@ -27,13 +26,14 @@ impl State {
         }
     }
 
-    /// Writes the four words, the low-order byte of each first.
-    pub fn write(self, out: &mut [u8; 16])
-        ensures { out.new ≡ written self }
+    /// The four words in bytes, the low-order byte of each first.
+    pub fn to_bytes(self) -> [u8; 16]
+        ensures { result ≡ written self }
     {
-        let at = put(out, 0, &four(self.a));
-        let at = put(out, at, &four(self.b));
-        let at = put(out, at, &four(self.c));
-        put(out, at, &four(self.d));
+        let mut bytes = Buffer::new();
+        for word in [self.a, self.b, self.c, self.d] {
+            bytes.push(&word.to_le_bytes());
+        }
+        bytes.into_array()
     }
 }

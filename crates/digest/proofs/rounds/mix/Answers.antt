@@ -1,19 +1,32 @@
-use Rattle.std.proofs.Common.{◌≡◌, refl, arith}
-use Rattle.digest.proofs.Steps.{steps, again, ends}
+use Rattle.std.proofs.Common.{rules, refl, ◌+◌, ◌*◌, ◌%◌, ap, ◌∙◌}
+use Rattle.digest.specs.Rounds.{F, G, H, I, round, mixed, four_rounds, round_1, round_2, round_3, round_4}
+use Rattle.digest.specs.Operations.{rows, index_of}
+use Rattle.digest.specs.declared.state.State.{State}
+use Rattle.digest.proofs.Steps.{picks}
 use Rattle.digest.proofs.rounds.mix.Goals as goal
 
-pub loop-i-init : goal.loop-i-init
-unfolding steps
-loop-i-init c = refl
+pub round-w-requires : goal.round-w-requires
+unfolding index_of rows round_1 round_2 round_3 round_4
+round-w-requires c = search (rules, picks 0 (λ i. i) refl)
 
-pub loop-i-preserved : goal.loop-i-preserved
-loop-i-preserved c =
-    again c.args.block.now c.args.state c.loop-i.i c.loop-i.a c.loop-i.b c.loop-i.c c.loop-i.d
-    c.function-f.result c.index.result c.word_at-x.result c.shift.result c.sine.result c.rotate_left-b.result c.loop-i.invariant
-    c.function-f.ensures c.index.ensures.value c.word_at-x.ensures c.sine.ensures c.shift.ensures.value
-    c.shift.ensures.within.0 c.shift.ensures.within.1 c.rotate_left-b.ensures
+pub round-w-requires-2 : goal.round-w-requires-2
+unfolding index_of rows round_1 round_2 round_3 round_4
+round-w-requires-2 c = search (rules, picks 16 (λ i. (5 * i + 1) % 16) refl)
+
+pub round-w-requires-3 : goal.round-w-requires-3
+unfolding index_of rows round_1 round_2 round_3 round_4
+round-w-requires-3 c = search (rules, picks 32 (λ i. (3 * i + 5) % 16) refl)
+
+pub round-w-requires-4 : goal.round-w-requires-4
+unfolding index_of rows round_1 round_2 round_3 round_4
+round-w-requires-4 c = search (rules, picks 48 (λ i. 7 * i % 16) refl)
 
 pub returns : goal.returns
+unfolding mixed four_rounds rows round_1 round_2 round_3 round_4
 returns c =
-    let e : c.loop-i.i ≡ 64 = omega arith in
-    ends c.args.block.now c.args.state c.loop-i.i c.loop-i.a c.loop-i.b c.loop-i.c c.loop-i.d e c.loop-i.invariant
+    let m = c.args.block.now in
+    let w1 = c.round-w.ensures F (λ x y z r p. search rules) in
+    let w2 = c.round-w-2.ensures G (λ x y z r p. search rules) ∙ ap (λ (w : State). round G round_2 m w) w1 in
+    let w3 = c.round-w-3.ensures H (λ x y z r p. search rules) ∙ ap (λ (w : State). round H round_3 m w) w2 in
+    let w4 = c.round-w-4.ensures I (λ x y z r p. search rules) ∙ ap (λ (w : State). round I round_4 m w) w3 in
+    rw (w4) refl
