@@ -1,5 +1,5 @@
 -- The worked cases, by computation.
-use Rattle.std.proofs.Common.{◌≡◌, ℕ, ◌+◌, [], length, sym, refl, ap, ◌∙◌, append-nil}
+use Rattle.std.proofs.Common.{◌≡◌, ℕ, ◌+◌, [], length, Ok, sym, refl, ap, ◌∙◌, append-nil}
 use Rattle.fields.specs.Texts.{pair_at, zone}
 use Rattle.fields.specs.Calendar.{years, months, timed, days_before, milliseconds}
 use Rattle.message.specs.Headers.{bcid_typed, header_typed}
@@ -7,13 +7,12 @@ use Rattle.message.specs.Values.{others, attributes_typed}
 use Rattle.message.specs.Rules.{well_formed, sound}
 use Rattle.forms.specs.declared.encoding.Encoding.TheVariants.{Spool}
 use Rattle.forms.specs.Forms.{form}
-use Rattle.reading.specs.declared.ending.Ending.TheVariants.{End}
 use Rattle.reading.specs.Tokens.{token_at, item_at}
 use Rattle.reading.specs.Events.{event_at, steps, from, after, spool_meaning}
 use Rattle.reading.proofs.Again.{reads_again}
 use Rattle.laws.specs.Worked.{Worked}
 
-nothing_left : (p : ℕ) → from Spool p [] ≡ ([], End)
+nothing_left : (p : ℕ) → from Spool p [] ≡ ([], Ok tt)
 unfolding steps event_at token_at item_at
 nothing_left p = refl
 

@@ -8,7 +8,6 @@ use Rattle.message.specs.Values.{attributes_of}
 use Rattle.message.specs.Checks.{checked}
 use Rattle.message.specs.MediaAlive.{alive_header}
 use Rattle.forms.specs.Forms.{form}
-use Rattle.reading.specs.declared.ending.Ending.TheVariants.{End, Broken}
 use Rattle.reading.specs.Events.{spool_meaning}
 
 -- the Media_Alive at another time
@@ -38,7 +37,7 @@ pub record Worked : Type 0 where
   pub no_leap_day : checked 0 (alive_at (codes "20010229000000.000")) (attributes_of []) ≡ Err (HeaderForm 0)
   -- the Media_Alive is an event; its spool holds it and nothing else
   pub alive : is_ok (checked 0 alive_header (attributes_of [])) ≡ true
-  pub alive_spool : (e : Event) → checked 0 alive_header (attributes_of []) ≡ Ok e → spool_meaning (form e) ≡ ((e, 0) ∷ [], End)
+  pub alive_spool : (e : Event) → checked 0 alive_header (attributes_of []) ≡ Ok e → spool_meaning (form e) ≡ ((e, 0) ∷ [], Ok tt)
   -- a reader that accepts all bytes, or none, is not this one
-  pub empty_spool : spool_meaning [] ≡ ([], End)
-  pub no_spool : spool_meaning (0 ∷ []) ≡ ([], Broken (UnknownItem 0))
+  pub empty_spool : spool_meaning [] ≡ ([], Ok tt)
+  pub no_spool : spool_meaning (0 ∷ []) ≡ ([], Err (UnknownItem 0))

@@ -6,43 +6,37 @@ ghost use Rattle.reading.specs.Laws.{FormTells, OrderTells, AnyOrder, CheckAlone
 ghost use Rattle.laws.specs.Worked.{Worked};
 
 /// Two events with the same spool form are the same.
-pub fn form_tells() -> u8
+pub fn form_tells()
     ensures { FormTells }
 {
-    0
 }
 
 /// The order of events tells any two apart.
-pub fn order_tells() -> u8
+pub fn order_tells()
     ensures { OrderTells }
 {
-    0
 }
 
 /// The order of a packet's counted attributes does not matter to the event.
-pub fn any_order() -> u8
+pub fn any_order()
     ensures { AnyOrder }
 {
-    0
 }
 
 /// The check of an event looks at nothing but the event.
-pub fn check_alone() -> u8
+pub fn check_alone()
     ensures { CheckAlone }
 {
-    0
 }
 
 /// An event takes 77 to 252 bytes in a spool.
-pub fn lengths() -> u8
+pub fn lengths()
     ensures { (e : Event) → Lengths e }
 {
-    0
 }
 
 /// The worked cases.
-pub fn worked() -> u8
+pub fn worked()
     ensures { Worked }
 {
-    0
 }

@@ -12,3 +12,4 @@ pub mod Lost
 pub mod Accepts
 pub mod Skips
 pub mod Bounds
+pub mod Zeros

@@ -3,5 +3,4 @@ pub mod Tokens
 pub mod Events
 pub mod Readings
 pub mod Feeding
-pub mod Few
 pub mod Laws

@@ -1,11 +1,11 @@
 //! A feed: the events still to come, each with the offset of its header, and how they end.
 ghost use Rattle.std.specs.Prelude.{◌≡◌, ℕ, ◌^◌, ◌<◌, List, length};
 ghost use Rattle.message.specs.declared.event.Event.{Event};
-ghost use Rattle.reading.specs.declared.ending.Ending.{Ending};
+ghost use Rattle.reading.specs.Events.{Ending};
 ghost use Rattle.reading.specs.Feeding.{handed, rest, placed};
 
-use crate::ending::Handed;
 use message::event::Event;
+use refusal::Fault;
 
 pub trait Feed {
     /// The events still to come, each with the offset of its header.
@@ -14,13 +14,14 @@ pub trait Feed {
     /// What stands behind them.
     ghost ending: { Self → Ending };
 
-    /// They are fewer than 2^60, as each implementation shows.
-    ghost few: { (s : Self) → length (coming s) < 2 ^ 60 };
-
-    /// Hands over the first and drops it, or tells the end or the fault, and then stays put and leaves the place untouched.
-    fn next(&mut self, place: &mut Event) -> Handed
+    /// Hands over the first, drops it, and answers its offset. At the end, and at a fault, it stays put and leaves the place
+    /// untouched.
+    fn next(&mut self, place: &mut Event) -> Result<Option<usize>, Fault>
         ensures says { result ≡ handed (coming self.old) (ending self.old) }
         ensures drops { coming self.new ≡ rest (coming self.old) }
         ensures ending { ending self.new ≡ ending self.old }
         ensures hands { place.new ≡ placed (coming self.old) place.old };
+
+    /// They are fewer than 2^60.
+    ghost few: { (s : Self) → length (coming s) < 2 ^ 60 };
 }

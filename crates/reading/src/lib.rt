@@ -3,12 +3,13 @@
 
 mod admission;
 pub mod attribute;
-pub mod ending;
+pub mod cursor;
 mod events;
+pub mod feed;
 pub mod feeds;
+pub mod framing;
 pub mod packet;
 pub mod placed;
 pub mod spool;
 pub mod token;
-mod tokens;
 pub mod walk;
