@@ -1,12 +1,10 @@
 //! The attributes of an event besides its header.
 use crate::header::Bcid;
+use wire::Buffer;
 
-/// A name of 1 to 32 bytes; the bytes behind it are zeros.
-#[derive(Clone, Copy)]
-pub struct EndpointName {
-    pub length: u8,
-    pub text: [u8; 32],
-}
+/// A name of 1 to 32 bytes.
+#[derive(Clone, Copy, PartialEq, Eq, Debug)]
+pub struct EndpointName(pub(crate) Buffer<32>);
 
 /// A number as dialled or billed, in text.
 #[derive(Clone, Copy)]

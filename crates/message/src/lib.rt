@@ -2,6 +2,7 @@
 #![tactic(auto)]
 
 pub mod attributes;
+pub mod bcid_wire;
 pub mod check;
 pub mod event;
 pub mod header;
@@ -10,3 +11,4 @@ pub mod keeping;
 pub mod media_alive;
 pub mod name;
 mod profile;
+pub mod value_wire;
