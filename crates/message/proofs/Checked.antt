@@ -4,12 +4,15 @@ use mathlib.Core.HLevel.{is_prop→PathP}
 use mathlib.Core.Bool.{Bool-set}
 use Rattle.std.proofs.lemmas.Bool.{eq-eqb, eqb-true, and_parts, and_from, and_right, cond-true}
 use Rattle.refusal.specs.declared.Fault.TheVariants.{MandatoryMissing}
+use Rattle.fields.specs.Texts.{spaced, zone}
+use Rattle.fields.specs.Calendar.{timed}
 use Rattle.message.specs.declared.header.Header.{Header}
 use Rattle.message.specs.declared.attributes.Attributes.{Attributes}
 use Rattle.message.specs.declared.event.Event.{Event}
 use Rattle.message.specs.Headers.{header_typed}
 use Rattle.message.specs.Values.{others, attributes_typed}
 use Rattle.message.specs.Rules.{listed, well_formed, complete, sound}
+use Rattle.message.specs.Kinds.{element_listed}
 use Rattle.message.specs.Checks.{tested, event_of, checked}
 
 -- what is sound, in parts
@@ -39,6 +42,20 @@ make_sound h a p =
 pub not_sound : (h : Header) (a : Attributes) → complete h.kind a ≡ false → sound h a ≡ false
 unfolding sound
 not_sound h a e = and_right _ (complete h.kind a) e
+
+-- so the header of an event tells a kind and a type of element that are there
+pub kind_listed : (e : Event) → listed e.header.kind ≡ true
+kind_listed e = (parts e.header e.attributes e.sound).kind
+
+pub element_told : (e : Event) → element_listed e.header.element_type ≡ true
+unfolding well_formed
+element_told e =
+    let h = e.header in
+    let p4 = and_parts _ (timed h.event_time.0) (parts h e.attributes e.sound).formed in
+    let p3 = and_parts _ (zone h.time_zone.0) p4.0 in
+    let p2 = and_parts _ (spaced h.element_id.0) p3.0 in
+    let p1 = and_parts _ (zone h.bcid.time_zone.0) p2.0 in
+    (and_parts (element_listed h.element_type) (spaced h.bcid.element_id.0) p1.0).0
 
 -- events with equal fields are equal
 pub event_same : (e f : Event) → e.header ≡ f.header → e.attributes ≡ f.attributes → e ≡ f

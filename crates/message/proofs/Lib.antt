@@ -1,4 +1,3 @@
-pub mod Names
 pub mod Checked
 pub mod Wires
 pub mod Listings

@@ -1,6 +1,7 @@
 pub mod Tables
 pub mod Headers
 pub mod Values
+pub mod Kinds
 pub mod Rules
 pub mod Checks
 pub mod MediaAlive

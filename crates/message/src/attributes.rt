@@ -1,30 +1,28 @@
 //! The attributes of an event besides its header.
 use crate::header::Bcid;
+use wire::Buffer;
 
-/// A name of 1 to 32 bytes; the bytes behind it are zeros.
-#[derive(Clone, Copy)]
-pub struct EndpointName {
-    pub length: u8,
-    pub text: [u8; 32],
-}
+/// A name of 1 to 32 bytes.
+#[derive(Clone, Copy, PartialEq, Eq, Debug)]
+pub struct EndpointName(pub(crate) Buffer<32>);
 
 /// A number as dialled or billed, in text.
-#[derive(Clone, Copy)]
+#[derive(Clone, Copy, PartialEq, Eq, Debug)]
 pub struct TelephoneNumber(pub [u8; 20]);
 
 /// Why a call ended: a code, and the document that has it.
-#[derive(Clone, Copy)]
+#[derive(Clone, Copy, PartialEq, Eq, Debug)]
 pub struct TerminationCause {
     pub source_document: u16,
     pub cause_code: u32,
 }
 
 /// By how much a clock was set, in milliseconds, signed and big-endian.
-#[derive(Clone, Copy)]
+#[derive(Clone, Copy, PartialEq, Eq, Debug)]
 pub struct TimeAdjustment(pub [u8; 8]);
 
-/// Each attribute by name, with its number.
-#[derive(Clone, Copy)]
+/// Each attribute by name, with its number. Those of 26, 30, 37 and 50 may have any value.
+#[derive(Clone, Copy, PartialEq, Eq, Debug, Default)]
 pub struct Attributes {
     /// 3
     pub endpoint_name: Option<EndpointName>,

@@ -1,28 +1,25 @@
 //! The check of an event as a whole.
-ghost use Rattle.std.specs.Prelude.{◌≡◌, true, ◌||◌, length, ◌==◌};
+ghost use Rattle.std.specs.Prelude.{◌≡◌, true, length};
 ghost use Rattle.message.specs.Headers.{header_typed};
 ghost use Rattle.message.specs.Values.{others, attributes_typed};
 ghost use Rattle.message.specs.Rules.{well_formed};
 ghost use Rattle.message.specs.Checks.{checked};
 
 use crate::attributes::Attributes;
+use crate::element_type::ElementType;
 use crate::event::Event;
+use crate::event_kind::EventKind;
 use crate::header::Header;
-use crate::profile::{has_mandatory, is_listed};
+use crate::profile::has_mandatory;
 use refusal::Fault;
-
-fn is_element_type(n: u16) -> bool
-    ensures { result ≡ (n == 1 || n == 2 || n == 3) }
-{
-    n == 1 || n == 2 || n == 3
-}
 
 impl Header {
     /// Whether its fields have the forms that they must have.
+    #[tactic(auto, unfolding(crate::specs::Rules::well_formed))]
     fn is_well_formed(&self) -> bool
         ensures { result ≡ well_formed self.now }
     {
-        is_element_type(self.element_type)
+        ElementType::try_from(self.element_type).is_ok()
             && self.bcid.element_id.is_well_formed()
             && self.bcid.time_zone.is_well_formed()
             && self.element_id.is_well_formed()
@@ -38,12 +35,12 @@ pub fn check_event(header: Header, attributes: Attributes, at: usize) -> Result<
     requires count { length (others attributes) ≡ header.attribute_count }
     ensures { result ≡ checked at header attributes }
 {
-    if !is_listed(header.kind) {
+    let Ok(kind) = EventKind::try_from(header.kind) else {
         return Err(Fault::UnknownKind { at });
-    }
+    };
     if !header.is_well_formed() {
         return Err(Fault::HeaderForm { at });
     }
-    has_mandatory(header.kind, &attributes, at)?;
+    has_mandatory(kind, &attributes, at)?;
     Ok(Event { header, attributes })
 }

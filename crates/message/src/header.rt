@@ -3,15 +3,15 @@ use fields::calendar::EventTime;
 use fields::texts::{ElementId, TimeZone};
 
 /// Counts an element's calls.
-#[derive(Clone, Copy)]
+#[derive(Clone, Copy, PartialEq, Eq, Debug)]
 pub struct EventCounter(pub u32);
 
 /// Counts an element's messages.
-#[derive(Clone, Copy)]
+#[derive(Clone, Copy, PartialEq, Eq, Debug)]
 pub struct SequenceNumber(pub u32);
 
 /// A Billing Correlation ID, which names a call.
-#[derive(Clone, Copy)]
+#[derive(Clone, Copy, PartialEq, Eq, Debug)]
 pub struct Bcid {
     pub timestamp: u32,
     pub element_id: ElementId,
@@ -19,11 +19,12 @@ pub struct Bcid {
     pub event_counter: EventCounter,
 }
 
-#[derive(Clone, Copy)]
+#[derive(Clone, Copy, PartialEq, Eq, Debug)]
 pub struct Header {
     pub version_id: u16,
     pub bcid: Bcid,
-    /// The Event_Message_Type, which is the kind of event.
+    /// The Event_Message_Type, which is the kind of event. It stays a number, as does the type of element: a header is read
+    /// with any, and one that is not listed is refused only after the attributes were read.
     pub kind: u16,
     pub element_type: u16,
     pub element_id: ElementId,

@@ -1,110 +1,75 @@
 //! Attributes as they are read, one after another.
-ghost use Rattle.std.specs.Prelude.{◌≡◌, ℕ, ◌+◌, ◌<◌, ◌≤◌, true, [], ◌∷◌, length};
-ghost use Rattle.message.specs.Values.{fits, attributes_of, kept, cause_at, cause_form, telephone_at, adjustment_at, adjustment_value};
+ghost use Rattle.std.specs.Prelude.{◌≡◌, true, [], is_some};
+ghost use Rattle.message.specs.Values.{fits, value, attributes_of, kept};
+ghost use Rattle.message.specs.Kinds.{number_of};
 
+use crate::attribute_kind::AttributeKind;
 use crate::attributes::{
     Attributes, EndpointName, TelephoneNumber, TerminationCause, TimeAdjustment,
 };
 use crate::header::Bcid;
-use wire::{Buffer, FixedWidth, part};
-
-impl FixedWidth<6> for TerminationCause {
-    ghost form = { cause_form };
-
-    ghost found = { cause_at };
-
-    fn read(bytes: &[u8], at: usize) -> TerminationCause {
-        TerminationCause {
-            source_document: u16::read(bytes, at),
-            cause_code: u32::read(bytes, at + 2),
-        }
-    }
-
-    fn to_bytes(&self) -> [u8; 6] {
-        let mut out = Buffer::<6>::new();
-        out.push(&self.source_document.to_bytes());
-        out.push(&self.cause_code.to_bytes());
-        out.into_array()
-    }
-}
-
-impl FixedWidth<20> for TelephoneNumber {
-    ghost form = { λ x. x.0 };
-
-    ghost found = { telephone_at };
-
-    fn read(bytes: &[u8], at: usize) -> TelephoneNumber {
-        TelephoneNumber(part(bytes, at))
-    }
-
-    fn to_bytes(&self) -> [u8; 20] {
-        self.0
-    }
-}
-
-impl FixedWidth<8> for TimeAdjustment {
-    ghost form = { λ x. x.0 };
-
-    ghost found = { adjustment_at };
-
-    fn read(bytes: &[u8], at: usize) -> TimeAdjustment {
-        TimeAdjustment(part(bytes, at))
-    }
-
-    fn to_bytes(&self) -> [u8; 8] {
-        self.0
-    }
-}
-
-impl TimeAdjustment {
-    /// The milliseconds, with their sign.
-    pub fn milliseconds(&self) -> i64
-        ensures { result ≡ adjustment_value self.now }
-    {
-        i64::from_be_bytes(self.0)
-    }
-}
+use wire::FixedWidth;
 
 impl Attributes {
     /// No attributes.
     pub fn none() -> Attributes
         ensures { result ≡ attributes_of [] }
     {
-        Attributes {
-            endpoint_name: None,
-            calling_party_number: None,
-            called_party_number: None,
-            termination_cause: None,
-            related_call: None,
-            charge_number: None,
-            routing_number: None,
-            udp_port: None,
-            service_flow: None,
-            direction: None,
-            time_adjustment: None,
-            flow_direction: None,
-        }
+        Attributes::default()
     }
 
     /// Keeps the value of one attribute.
-    pub fn keep(&mut self, number: u8, value: &[u8])
-        requires { fits (number, value.now) ≡ true }
-        ensures { self.new ≡ kept number value.now self.old }
+    pub fn keep(&mut self, kind: AttributeKind, value: &[u8])
+        requires { fits (number_of kind, value.now) ≡ true }
+        ensures { self.new ≡ kept (number_of kind) value.now self.old }
     {
-        match number {
-            3 => self.endpoint_name = Some(EndpointName::read(value)),
-            4 => self.calling_party_number = Some(TelephoneNumber::read(value, 0)),
-            5 => self.called_party_number = Some(TelephoneNumber::read(value, 0)),
-            11 => self.termination_cause = Some(TerminationCause::read(value, 0)),
-            13 => self.related_call = Some(Bcid::read(value, 0)),
-            16 => self.charge_number = Some(TelephoneNumber::read(value, 0)),
-            25 => self.routing_number = Some(TelephoneNumber::read(value, 0)),
-            26 => self.udp_port = Some(u32::read(value, 0)),
-            30 => self.service_flow = Some(u32::read(value, 0)),
-            37 => self.direction = Some(u16::read(value, 0)),
-            38 => self.time_adjustment = Some(TimeAdjustment::read(value, 0)),
-            50 => self.flow_direction = Some(u16::read(value, 0)),
-            _ => {}
+        match kind {
+            AttributeKind::Header => {}
+            AttributeKind::EndpointName => self.endpoint_name = Some(EndpointName::read(value)),
+            AttributeKind::CallingPartyNumber => self.calling_party_number = Some(
+                TelephoneNumber::read(value, 0),
+            ),
+            AttributeKind::CalledPartyNumber => self.called_party_number = Some(
+                TelephoneNumber::read(value, 0),
+            ),
+            AttributeKind::TerminationCause => self.termination_cause = Some(TerminationCause::read(
+                value, 0,
+            )),
+            AttributeKind::RelatedCall => self.related_call = Some(Bcid::read(value, 0)),
+            AttributeKind::ChargeNumber => self.charge_number = Some(TelephoneNumber::read(
+                value, 0,
+            )),
+            AttributeKind::RoutingNumber => self.routing_number = Some(TelephoneNumber::read(
+                value, 0,
+            )),
+            AttributeKind::UdpPort => self.udp_port = Some(u32::read(value, 0)),
+            AttributeKind::ServiceFlow => self.service_flow = Some(u32::read(value, 0)),
+            AttributeKind::Direction => self.direction = Some(u16::read(value, 0)),
+            AttributeKind::TimeAdjustment => self.time_adjustment = Some(TimeAdjustment::read(
+                value, 0,
+            )),
+            AttributeKind::FlowDirection => self.flow_direction = Some(u16::read(value, 0)),
+        }
+    }
+
+    /// Whether one with this kind was kept.
+    pub fn has(&self, kind: AttributeKind) -> bool
+        ensures { result ≡ is_some (value (number_of kind) self.now) }
+    {
+        match kind {
+            AttributeKind::Header => false,
+            AttributeKind::EndpointName => self.endpoint_name.is_some(),
+            AttributeKind::CallingPartyNumber => self.calling_party_number.is_some(),
+            AttributeKind::CalledPartyNumber => self.called_party_number.is_some(),
+            AttributeKind::TerminationCause => self.termination_cause.is_some(),
+            AttributeKind::RelatedCall => self.related_call.is_some(),
+            AttributeKind::ChargeNumber => self.charge_number.is_some(),
+            AttributeKind::RoutingNumber => self.routing_number.is_some(),
+            AttributeKind::UdpPort => self.udp_port.is_some(),
+            AttributeKind::ServiceFlow => self.service_flow.is_some(),
+            AttributeKind::Direction => self.direction.is_some(),
+            AttributeKind::TimeAdjustment => self.time_adjustment.is_some(),
+            AttributeKind::FlowDirection => self.flow_direction.is_some(),
         }
     }
 }

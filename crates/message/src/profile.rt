@@ -1,28 +1,20 @@
-//! The profile: the kinds of event, and what each must have.
+//! The profile: what each kind of event must have.
 ghost use Rattle.std.specs.Prelude.{◌≡◌, true, false, MatchResult};
 ghost use Rattle.refusal.specs.declared.Fault.TheVariants.{MandatoryMissing};
-ghost use Rattle.message.specs.Rules.{listed, complete};
+ghost use Rattle.message.specs.Rules.{complete};
+ghost use Rattle.message.specs.Kinds.{event_number};
 
 use crate::attributes::Attributes;
+use crate::event_kind::EventKind;
 use refusal::Fault;
 
-/// Whether the profile has a kind of event.
-pub(crate) fn is_listed(kind: u16) -> bool
-    ensures { result ≡ listed kind }
-{
-    match kind {
-        1 | 2 | 7 | 8 | 15 | 16 | 17 | 19 | 20 => true,
-        _ => false,
-    }
-}
-
 /// That an event of a kind, whose header stands at `at`, has what it must have.
-pub(crate) fn has_mandatory(kind: u16, a: &Attributes, at: usize) -> Result<(), Fault>
-    ensures { MatchResult result (λ _. complete kind a.now ≡ true) (λ f. (complete kind a.now ≡ false) × (f ≡ MandatoryMissing at)) }
+pub(crate) fn has_mandatory(kind: EventKind, a: &Attributes, at: usize) -> Result<(), Fault>
+    ensures { MatchResult result (λ _. complete (event_number kind) a.now ≡ true) (λ f. (complete (event_number kind) a.now ≡ false) × (f ≡ MandatoryMissing at)) }
 {
     let missing = Fault::MandatoryMissing { at };
     match kind {
-        1 => {
+        EventKind::SignalingStart => {
             let Some(_) = a.endpoint_name else {
                 return Err(missing);
             };
@@ -36,7 +28,7 @@ pub(crate) fn has_mandatory(kind: u16, a: &Attributes, at: usize) -> Result<(), 
                 return Err(missing);
             };
         }
-        7 | 19 => {
+        EventKind::QosReserve | EventKind::QosCommit => {
             let Some(_) = a.udp_port else {
                 return Err(missing);
             };
@@ -47,7 +39,7 @@ pub(crate) fn has_mandatory(kind: u16, a: &Attributes, at: usize) -> Result<(), 
                 return Err(missing);
             };
         }
-        8 => {
+        EventKind::QosRelease => {
             let Some(_) = a.service_flow else {
                 return Err(missing);
             };
@@ -55,22 +47,22 @@ pub(crate) fn has_mandatory(kind: u16, a: &Attributes, at: usize) -> Result<(), 
                 return Err(missing);
             };
         }
-        15 => {
+        EventKind::CallAnswer => {
             let Some(_) = a.charge_number else {
                 return Err(missing);
             };
         }
-        16 => {
+        EventKind::CallDisconnect => {
             let Some(_) = a.termination_cause else {
                 return Err(missing);
             };
         }
-        17 => {
+        EventKind::TimeChange => {
             let Some(_) = a.time_adjustment else {
                 return Err(missing);
             };
         }
-        _ => {}
+        EventKind::SignalingStop | EventKind::MediaAlive => {}
     }
     Ok(())
 }
