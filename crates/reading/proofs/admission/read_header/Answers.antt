@@ -1,5 +1,5 @@
 use Rattle.std.proofs.Common.{sym, ap, ◌∙◌}
-use Rattle.message.specs.Headers.{header_typed}
+use Rattle.message.specs.Headers.{header_of, header_typed}
 use Rattle.message.proofs.Wires.{header_of_typed}
 use Rattle.reading.proofs.Admitted.{no_number, no_header, no_width, a_header}
 use Rattle.reading.proofs.admission.read_header.Goals as goal
@@ -20,7 +20,8 @@ returns-then-token-ne76 c =
 pub returns : goal.returns
 returns c =
     let t = c.args.token.now in
+    let e = c.from_bytes.ensures ∙ ap header_of c.whole.ensures in
     record {
-      read = a_header t.at t.number t.body.now (sym c.is_known.ensures ∙ c.if-not-is_known.false) c.if-token-ne1.false c.read.result c.read.ensures c.if-token-ne76.false;
-      typed = ap header_typed c.read.ensures ∙ header_of_typed t.body.now c.if-token-ne76.false;
+      read = a_header t.at t.number t.body.now (sym c.is_known.ensures ∙ c.if-not-is_known.false) c.if-token-ne1.false c.from_bytes.result e c.if-token-ne76.false;
+      typed = ap header_typed e ∙ header_of_typed t.body.now c.if-token-ne76.false;
     }
