@@ -1,2 +1,3 @@
 pub mod Forms
+pub mod Builders
 pub mod Order

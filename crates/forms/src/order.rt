@@ -9,31 +9,26 @@ use crate::encoding::Encoding;
 use crate::form::Form;
 use message::event::Event;
 use std::cmp::Ordering;
+use wire::FixedWidth;
 
-fn order_bytes(a: &[u8], b: &[u8]) -> Ordering
-    ensures { result ≡ slice_cmp nat_cmp a.now b.now }
-{
-    a.cmp(&b)
-}
-
-// The forms are made only where BCID and Event_Time tie.
-fn order_forms(a: &Event, b: &Event) -> Ordering
+fn compare_forms(a: &Event, b: &Event) -> Ordering
     ensures { result ≡ slice_cmp nat_cmp (form a.now) (form b.now) }
 {
     let a = Form::of(Encoding::Spool, a);
     let b = Form::of(Encoding::Spool, b);
-    order_bytes(a.as_bytes(), b.as_bytes())
+    a.as_bytes().cmp(b.as_bytes())
 }
 
-/// By BCID, then by Event_Time, then by spool form, each by its bytes.
+/// By BCID, then by Event_Time, then by spool form, each by its bytes. The forms are made only where the rest ties.
+// Not an `impl Ord for Event`: `Event` belongs to a crate below, and its order needs the forms made here.
+#[tactic(auto, unfolding(crate::specs::Order::order))]
 pub fn compare(a: &Event, b: &Event) -> Ordering
     ensures { result ≡ by_parts a.now b.now }
 {
-    match order_bytes(&a.header.bcid.bytes(), &b.header.bcid.bytes()) {
-        Ordering::Equal => match order_bytes(&a.header.event_time.0, &b.header.event_time.0) {
-            Ordering::Equal => order_forms(a, b),
-            unlike => unlike,
-        },
-        unlike => unlike,
-    }
+    a.header
+        .bcid
+        .to_bytes()
+        .cmp(&b.header.bcid.to_bytes())
+        .then_with(|| a.header.event_time.cmp(&b.header.event_time))
+        .then_with(|| compare_forms(a, b))
 }
