@@ -9,7 +9,6 @@ pub mod Meanings
 pub mod Starts
 pub mod Again
 pub mod Lost
-pub mod Accepts
 pub mod Skips
 pub mod Bounds
 pub mod Zeros

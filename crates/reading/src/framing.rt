@@ -3,10 +3,12 @@ ghost use Rattle.std.specs.Prelude.{◌≡◌, ℕ, length, drop};
 ghost use Rattle.forms.specs.declared.encoding.Encoding.{Encoding};
 ghost use Rattle.reading.specs.Tokens.{token_at, seen, Further};
 ghost use Rattle.reading.specs.Events.{value_in, start};
-ghost use Rattle.reading.specs.Readings.{met_in};
+ghost use Rattle.reading.specs.Readings.{or_empty, met_in};
+ghost use Rattle.message.specs.Kinds.{number_of};
 
 use crate::cursor::Cursor;
 use crate::token::Token;
+use message::attribute_kind::AttributeKind;
 use message::attributes::Attributes;
 use refusal::Fault;
 
@@ -23,11 +25,11 @@ pub trait Framing {
         ensures read { seen from.entry.bytes.now result ≡ token_at encoding from.entry.place (drop from.entry.place from.entry.bytes.now) }
         ensures further { Further from.entry.place (length from.entry.bytes.now) result };
 
-    /// The value in the body of an attribute.
-    fn value<'a>(number: u8, body: &'a [u8]) -> &'a [u8]
-        ensures { result.now ≡ value_in encoding number body.now };
+    /// The value in the body of an attribute, if that has the form of one.
+    fn value<'a>(kind: AttributeKind, body: &'a [u8]) -> Option<&'a [u8]>
+        ensures { or_empty result ≡ value_in encoding (number_of kind) body.now };
 
-    /// Whether a number was met before, behind the number `last`.
-    fn is_met(number: u8, last: u8, attributes: &Attributes) -> bool
-        ensures { result ≡ met_in encoding number last attributes.now };
+    /// Whether an attribute was met before, among those that were kept, of which the last had the number `last`.
+    fn is_met(kind: AttributeKind, last: u8, attributes: &Attributes) -> bool
+        ensures { result ≡ met_in encoding (number_of kind) last attributes.now };
 }

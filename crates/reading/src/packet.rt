@@ -10,6 +10,7 @@ use crate::feed::EventFeed;
 use crate::framing::Framing;
 use crate::token::Token;
 use crate::walk::attribute_at;
+use message::attribute_kind::AttributeKind;
 use message::attributes::Attributes;
 use refusal::Fault;
 
@@ -30,12 +31,12 @@ impl Framing for VendorAttributes {
         cable_at(from)
     }
 
-    fn value<'a>(_number: u8, body: &'a [u8]) -> &'a [u8] {
-        body
+    fn value<'a>(_kind: AttributeKind, body: &'a [u8]) -> Option<&'a [u8]> {
+        Some(body)
     }
 
-    fn is_met(number: u8, _last: u8, attributes: &Attributes) -> bool {
-        has(attributes, number)
+    fn is_met(kind: AttributeKind, _last: u8, attributes: &Attributes) -> bool {
+        attributes.has(kind)
     }
 }
 
@@ -70,25 +71,4 @@ fn cable_at<'a>(from: Cursor<'a>) -> Result<Option<Token<'a>>, Fault>
         }
     }
     Ok(None)
-}
-
-// Whether attributes that were kept have one with this number.
-fn has(a: &Attributes, number: u8) -> bool
-    ensures { result ≡ is_some (value_of number a.now) }
-{
-    match number {
-        3 => a.endpoint_name.is_some(),
-        4 => a.calling_party_number.is_some(),
-        5 => a.called_party_number.is_some(),
-        11 => a.termination_cause.is_some(),
-        13 => a.related_call.is_some(),
-        16 => a.charge_number.is_some(),
-        25 => a.routing_number.is_some(),
-        26 => a.udp_port.is_some(),
-        30 => a.service_flow.is_some(),
-        37 => a.direction.is_some(),
-        38 => a.time_adjustment.is_some(),
-        50 => a.flow_direction.is_some(),
-        _ => false,
-    }
 }

@@ -1,37 +1,78 @@
-use Rattle.std.proofs.Common.{length, sym, ap, ◌∙◌}
-use Rattle.message.specs.Tables.{beside}
-use Rattle.message.specs.Values.{widths, within}
-use Rattle.reading.proofs.Admitted.{is_unknown, is_header, is_unfit, is_repeated, is_fine}
+use Rattle.std.proofs.Common.{◌≡◌, true, false, sym, ap, ◌∙◌, subst}
+use Rattle.std.proofs.lemmas.Result.{err_from_is_err_and}
+use Rattle.message.specs.Kinds.{number_of}
+use Rattle.message.specs.Values.{fits}
+use Rattle.reading.specs.Events.{value_in}
+use Rattle.reading.specs.Readings.{met_in, or_empty}
+use Rattle.reading.proofs.Admitted.{is_unknown, is_header, is_unfit, is_repeated, is_fine, one_number, other_number, nothing_fits}
 use Rattle.reading.proofs.admission.admit.Goals as goal
 
-pub returns-then-not-is_known : goal.returns-then-not-is_known
-returns-then-not-is_known g c =
+pub returns-in_err-kind-clause-read : goal.returns-in_err-kind-clause-read
+returns-in_err-kind-clause-read g c =
     let t = c.args.token.now in
-    record { read = is_unknown g.F.Framing.encoding t.at t.number t.body.now c.args.repeated (sym c.is_known.ensures ∙ c.if-not-is_known.true); fits = tt }
+    let e = c.in_err-kind.ensures in
+    let r = err_from_is_err_and c.from_residual.result c.from_residual.ensures.1 in
+    rw (r.1, r.2, e.1) (is_unknown g.F.Framing.encoding t.at t.number t.body.now _ e.0)
 
-pub returns-then-number-eq1 : goal.returns-then-number-eq1
-returns-then-number-eq1 g c =
+pub returns-in-Header-clause-read : goal.returns-in-Header-clause-read
+returns-in-Header-clause-read g c =
     let t = c.args.token.now in
-    record { read = is_header g.F.Framing.encoding t.at t.number t.body.now c.args.repeated (sym c.is_known.ensures ∙ c.if-not-is_known.false) c.if-number-eq1.true; fits = tt }
+    let e = c.in_ok-kind.ensures in
+    is_header g.F.Framing.encoding t.at t.number t.body.now _ e.1 (one_number c.in_ok-kind.kind t.number e.0 c.in-Header.is)
 
-pub returns-then-not-fits_width : goal.returns-then-not-fits_width
-returns-then-not-fits_width g c =
+pub returns-in_default-value : goal.returns-in_default-value
+returns-in_default-value g c =
     let t = c.args.token.now in
-    let e = ap (λ v. within (length v) (beside t.number widths)) (sym c.value-value.ensures) ∙ sym c.fits_width.ensures ∙ c.if-not-fits_width.true in
-    record { read = is_unfit g.F.Framing.encoding t.at t.number t.body.now c.args.repeated (sym c.is_known.ensures ∙ c.if-not-is_known.false) c.if-number-eq1.false e; fits = tt }
+    let k = c.in_ok-kind.kind in
+    let e = c.in_ok-kind.ensures in
+    let v = ap or_empty (sym c.in_default-value.is) ∙ c.value.ensures in
+    let f = ap (λ x. fits (number_of k, x)) (sym v) ∙ nothing_fits k in
+    record {
+      read = is_unfit g.F.Framing.encoding t.at t.number t.body.now _ e.1 (other_number k t.number e.0 c.in_default.not-Header) (subst (λ n. fits (n, value_in g.F.Framing.encoding n t.body.now) ≡ false) e.0 f);
+      kind = tt;
+      fits = tt;
+    }
 
-pub returns-then-repeated : goal.returns-then-repeated
-returns-then-repeated g c =
+pub returns-then-not-allows : goal.returns-then-not-allows
+returns-then-not-allows g c =
     let t = c.args.token.now in
-    let e = ap (λ v. within (length v) (beside t.number widths)) (sym c.value-value.ensures) ∙ sym c.fits_width.ensures ∙ c.if-not-fits_width.false in
-    record { read = is_repeated g.F.Framing.encoding t.at t.number t.body.now c.args.repeated (sym c.is_known.ensures ∙ c.if-not-is_known.false) c.if-number-eq1.false e c.if-repeated.true; fits = tt }
+    let k = c.in_ok-kind.kind in
+    let e = c.in_ok-kind.ensures in
+    let v = ap or_empty (sym c.in-Some.is) ∙ c.value.ensures in
+    let f = ap (λ x. fits (number_of k, x)) (sym v) ∙ sym c.allows.ensures ∙ c.if-not-allows.true in
+    record {
+      read = is_unfit g.F.Framing.encoding t.at t.number t.body.now _ e.1 (other_number k t.number e.0 c.in_default.not-Header) (subst (λ n. fits (n, value_in g.F.Framing.encoding n t.body.now) ≡ false) e.0 f);
+      kind = tt;
+      fits = tt;
+    }
+
+pub returns-then-is_met : goal.returns-then-is_met
+returns-then-is_met g c =
+    let t = c.args.token.now in
+    let k = c.in_ok-kind.kind in
+    let e = c.in_ok-kind.ensures in
+    let v = ap or_empty (sym c.in-Some.is) ∙ c.value.ensures in
+    let f = ap (λ x. fits (number_of k, x)) (sym v) ∙ sym c.allows.ensures ∙ c.if-not-allows.false in
+    let m = sym c.is_met.ensures ∙ c.if-is_met.true in
+    record {
+      read = is_repeated g.F.Framing.encoding t.at t.number t.body.now _ e.1 (other_number k t.number e.0 c.in_default.not-Header) (subst (λ n. fits (n, value_in g.F.Framing.encoding n t.body.now) ≡ true) e.0 f)
+          (subst (λ n. met_in g.F.Framing.encoding n c.args.last c.args.attributes.now ≡ true) e.0 m);
+      kind = tt;
+      fits = tt;
+    }
 
 pub returns : goal.returns
 returns g c =
     let t = c.args.token.now in
-    let f = sym c.fits_width.ensures ∙ c.if-not-fits_width.false in
-    let e = ap (λ v. within (length v) (beside t.number widths)) (sym c.value-value.ensures) ∙ f in
+    let k = c.in_ok-kind.kind in
+    let e = c.in_ok-kind.ensures in
+    let v = ap or_empty (sym c.in-Some.is) ∙ c.value.ensures in
+    let w = sym c.allows.ensures ∙ c.if-not-allows.false in
+    let f = ap (λ x. fits (number_of k, x)) (sym v) ∙ w in
+    let m = sym c.is_met.ensures ∙ c.if-is_met.false in
     record {
-      read = is_fine g.F.Framing.encoding t.at t.number t.body.now c.args.repeated (sym c.is_known.ensures ∙ c.if-not-is_known.false) c.if-number-eq1.false c.value-value.result.now c.value-value.ensures e c.if-repeated.false;
-      fits = f;
+      read = is_fine g.F.Framing.encoding t.at t.number t.body.now _ e.1 (other_number k t.number e.0 c.in_default.not-Header) c.in-Some.value.now (v ∙ ap (λ n. value_in g.F.Framing.encoding n t.body.now) e.0)
+          (subst (λ n. fits (n, value_in g.F.Framing.encoding n t.body.now) ≡ true) e.0 f) (subst (λ n. met_in g.F.Framing.encoding n c.args.last c.args.attributes.now ≡ false) e.0 m);
+      kind = e.0;
+      fits = w;
     }
