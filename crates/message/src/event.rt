@@ -18,6 +18,7 @@ pub struct Event {
 
 impl Event {
     /// The kind that its header tells.
+    #[tactic(auto, using(crate::proofs::Checked::kind_listed))]
     pub fn kind(&self) -> EventKind
         ensures { event_number result ≡ self.now.header.kind }
     {
@@ -28,6 +29,7 @@ impl Event {
     }
 
     /// The type of element that sent it.
+    #[tactic(auto, using(crate::proofs::Checked::element_told))]
     pub fn element_type(&self) -> ElementType
         ensures { element_number result ≡ self.now.header.element_type }
     {

@@ -4,7 +4,9 @@ ghost use Rattle.message.specs.Values.{attributes_of};
 ghost use Rattle.message.specs.MediaAlive.{alive_header};
 
 use crate::attributes::Attributes;
+use crate::element_type::ElementType;
 use crate::event::Event;
+use crate::event_kind::EventKind;
 use crate::header::{Bcid, EventCounter, Header, SequenceNumber};
 use fields::calendar::EventTime;
 use fields::texts::{ElementId, TimeZone};
@@ -24,8 +26,8 @@ impl Event {
                 time_zone: TimeZone(*b"1+030000"),
                 event_counter: EventCounter(9),
             },
-            kind: 20,
-            element_type: 1,
+            kind: EventKind::MediaAlive.number(),
+            element_type: ElementType::CallManagementServer.number(),
             element_id: ElementId(*b"   32631"),
             time_zone: TimeZone(*b"1+030000"),
             sequence_number: SequenceNumber(0),
