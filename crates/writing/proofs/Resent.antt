@@ -1,7 +1,7 @@
 -- A packet of our own is taken up and read again.
-use Rattle.std.proofs.Common.{◌≡◌, ℕ, ◌+◌, ◌≤◌, Bool, true, false, ◌||◌, eqb, List, [], ◌∷◌, ◌++◌, length, get_or, take, drop, replicate, Ok, Err, sym, refl, ap, ◌∙◌, append_assoc, append-nil, arith, length-append}
+use Rattle.std.proofs.Common.{◌≡◌, ℕ, ◌+◌, ◌≤◌, false, eqb, List, [], ◌∷◌, ◌++◌, length, get_or, take, drop, replicate, Ok, Err, sym, refl, ap, ◌∙◌, append_assoc, append-nil, arith, length-append}
 use Rattle.std.proofs.lemmas.List.{take_at, drop_at}
-use Rattle.std.proofs.lemmas.Bool.{le-ltb, cond-true, cond-false}
+use Rattle.std.proofs.lemmas.Bool.{le-ltb, or_from, cond-true, cond-false}
 use Rattle.refusal.specs.declared.Fault.TheVariants.{PacketLength, PacketCode}
 use Rattle.wire.specs.Octets.{two, two_at}
 use Rattle.wire.proofs.Numbers.{two_long, two_back}
@@ -30,13 +30,8 @@ bcid_24 e =
     bcid_long e.header.bcid (bcid_parts e.header.bcid (header_parts e.header s.header).bcid)
 
 -- the attributes, one after another
-spread : (e : Event) (address : List ℕ) → attributes e address ≡ 4 ∷ 6 ∷ (address ++ (40 ∷ 6 ∷ ((0 ∷ 0 ∷ 0 ∷ 3 ∷ []) ++ (44 ∷ 26 ∷ (bcid_form e.header.bcid ++ encoded Packet e)))))
-spread e address =
-    let b = bcid_form e.header.bcid in
-    let x = encoded Packet e in
-    append_assoc ((4 ∷ 6 ∷ []) ++ address ++ (40 ∷ 6 ∷ 0 ∷ 0 ∷ 0 ∷ 3 ∷ []) ++ (44 ∷ 26 ∷ [])) b x
-    ∙ append_assoc ((4 ∷ 6 ∷ []) ++ address ++ (40 ∷ 6 ∷ 0 ∷ 0 ∷ 0 ∷ 3 ∷ [])) (44 ∷ 26 ∷ []) (b ++ x)
-    ∙ append_assoc ((4 ∷ 6 ∷ []) ++ address) (40 ∷ 6 ∷ 0 ∷ 0 ∷ 0 ∷ 3 ∷ []) (44 ∷ 26 ∷ (b ++ x))
+spread : (address b x : List ℕ) → (4 ∷ 6 ∷ []) ++ address ++ (40 ∷ 6 ∷ 0 ∷ 0 ∷ 0 ∷ 3 ∷ []) ++ (44 ∷ 26 ∷ []) ++ b ++ x ≡ 4 ∷ 6 ∷ (address ++ (40 ∷ 6 ∷ ((0 ∷ 0 ∷ 0 ∷ 3 ∷ []) ++ (44 ∷ 26 ∷ (b ++ x)))))
+spread address b x = simp append_assoc refl
 
 module _ (e : Event) (address : List ℕ) (w : length address ≡ 4) where
   attrs_long : length (attributes e address) ≡ 38 + length (encoded Packet e)
@@ -44,7 +39,7 @@ module _ (e : Event) (address : List ℕ) (w : length address ≡ 4) where
       let b = bcid_form e.header.bcid in
       let x = encoded Packet e in
       let n = bcid_24 e in
-      ap length (spread e address) ∙ omega (arith, length-append address (40 ∷ 6 ∷ 0 ∷ 0 ∷ 0 ∷ 3 ∷ 44 ∷ 26 ∷ (b ++ x)), length-append b x)
+      ap length (spread address b x) ∙ omega (arith, length-append address (40 ∷ 6 ∷ 0 ∷ 0 ∷ 0 ∷ 3 ∷ 44 ∷ 26 ∷ (b ++ x)), length-append b x)
 
   skip : (p t s n : ℕ) (v rest : List ℕ) → length v ≡ n → s ≡ 2 + n → eqb t 26 ≡ false → event_at Packet p (t ∷ s ∷ (v ++ rest)) ≡ event_at Packet (p + s) rest
   skip p t s n v rest l k d =
@@ -55,7 +50,7 @@ module _ (e : Event) (address : List ℕ) (w : length address ≡ 4) where
   first_event =
       let b = bcid_form e.header.bcid in
       let x = encoded Packet e in
-      ap (event_at Packet 20) (spread e address)
+      ap (event_at Packet 20) (spread address b x)
       ∙ skip 20 4 6 4 address _ w refl refl
       ∙ skip 26 40 6 4 (0 ∷ 0 ∷ 0 ∷ 3 ∷ []) _ refl refl refl
       ∙ skip 32 44 26 24 b x (bcid_24 e) refl refl
@@ -111,10 +106,6 @@ module _ (e : Event) (address : List ℕ) (w : length address ≡ 4) where
         let here : two n ≡ take 2 (drop 2 all) = sym (take_at (two n) rest 2 (two_long n)) in
         ap (two_at 2) (unrolled behind) ∙ two_back all 2 n long (omega arith) here ∙ sym packet_long
 
-    neither : (a c : Bool) → a ≡ false → c ≡ false → a || c ≡ false
-    neither true c f g = f
-    neither false c f g = g
-
     passes : (behind : List ℕ) → length (packet ++ behind) ≤ 4095 → taken (packet ++ behind) ≡ Ok packet
     unfolding taken
     passes behind h =
@@ -127,9 +118,9 @@ module _ (e : Event) (address : List ℕ) (w : length address ≡ 4) where
         let b : 20 ≤ m = omega arith in
         let c : m ≤ length all = omega arith in
         let head : get_or all 0 0 ≡ 4 = ap (λ z. get_or z 0 0) (unrolled behind) in
-        cond-false _ _ _ (neither _ _ (le-ltb (length all) 20 a) (le-ltb 4095 (length all) h))
+        cond-false _ _ _ (or_from _ _ (le-ltb (length all) 20 a) (le-ltb 4095 (length all) h))
         ∙ cond-true (eqb (get_or all 0 0) 4) _ (Err PacketCode) (ap (λ z. eqb z 4) head)
-        ∙ cond-false _ (Err PacketLength) _ (neither _ _ (le-ltb m 20 b) (le-ltb (length all) m c))
+        ∙ cond-false _ (Err PacketLength) _ (or_from _ _ (le-ltb m 20 b) (le-ltb (length all) m c))
         ∙ ap Ok (take_at packet behind m (sym r))
 
     pub comes_back : Returns e packet

@@ -1,5 +1,5 @@
 //! An event as an Accounting-Request of its own.
-ghost use Rattle.std.specs.Prelude.{◌≡◌, ◌≤◌, length};
+ghost use Rattle.std.specs.Prelude.{◌≡◌, length};
 ghost use Rattle.forms.specs.declared.encoding.Encoding.TheVariants.{Packet};
 ghost use Rattle.reading.specs.Laws.{ReadBack};
 ghost use Rattle.writing.specs.Outputs.{answer, output};
@@ -51,7 +51,7 @@ impl<'a> Request<'a> {
     fn to_bytes(&self) -> Buffer<400>
         ensures { result ≡ sealed self.now.identifier self.now.attributes self.now.secret.now }
     {
-        let mut packet = Buffer::<400>::new();
+        let mut packet = Buffer::new();
         packet.push(&self.opening());
         packet.push(&self.authenticator());
         packet.push(self.attributes.as_bytes());
@@ -63,7 +63,7 @@ impl<'a> Request<'a> {
 fn make_attributes(event: &Event, address: &[u8; 4]) -> Buffer<380>
     ensures { result ≡ request_attributes event.now address.now }
 {
-    let mut out = Buffer::<380>::new();
+    let mut out = Buffer::new();
     out.push(&[4, 6]);
     out.push(address);
     out.push(&[40, 6, 0, 0, 0, 3]);
@@ -88,10 +88,9 @@ pub fn write_packet(
     ensures placed { ReadBack Packet event.now }
     ensures back { Returns event.now (request event.now identifier address.now secret.now) }
 {
-    let attributes = make_attributes(event, address);
     let request = Request {
         identifier,
-        attributes,
+        attributes: make_attributes(event, address),
         secret,
     };
     write_bytes(request.to_bytes().as_bytes(), out)
