@@ -12,7 +12,6 @@ use Rattle.message.proofs.Checked.{parts}
 use Rattle.message.proofs.Wires.{header_parts, bcid_parts, bcid_long}
 use Rattle.forms.specs.declared.encoding.Encoding.TheVariants.{Packet}
 use Rattle.forms.specs.Forms.{encoded}
-use Rattle.reading.specs.declared.ending.Ending.TheVariants.{End}
 use Rattle.reading.specs.Walks.{attribute_at}
 use Rattle.reading.specs.Tokens.{token_at, pick}
 use Rattle.reading.specs.Events.{event_at, steps, from, after, came}
@@ -57,11 +56,11 @@ module _ (e : Event) (address : List ℕ) (w : length address ≡ 4) where
       ∙ ap (event_at Packet 58) (sym (append-nil x))
       ∙ form_read Packet e 58 []
 
-  nothing_left : (p : ℕ) → from Packet p [] ≡ ([], End)
+  nothing_left : (p : ℕ) → from Packet p [] ≡ ([], Ok tt)
   unfolding steps event_at token_at pick attribute_at
   nothing_left p = refl
 
-  only_event : from Packet 20 (attributes e address) ≡ ((e, 58) ∷ [], End)
+  only_event : from Packet 20 (attributes e address) ≡ ((e, 58) ∷ [], Ok tt)
   only_event = from_came Packet 20 (attributes e address) e 58 (58 + length (encoded Packet e)) [] first_event ∙ ap (after e 58) (nothing_left (58 + length (encoded Packet e)))
 
   module _ (identifier : ℕ) (secret : List ℕ) where

@@ -8,4 +8,4 @@ returns c =
     let k = c.zeros_end.result - (length m + 1) in
     let few : k < 64 = omega arith in
     let right : (length m + 1 + k) % 64 ≡ 56 = omega arith in
-    laid m k c.args.len few right (c.push.ensures ∙ ap (λ z. z ++ m) c.new-tail.ensures) c.push-2.ensures c.push-3.ensures c.push-4.ensures c.bits.ensures
+    laid m k c.args.len few right (c.push.ensures.bytes ∙ ap (λ z. z ++ m) c.new-tail.ensures) c.push-2.ensures.bytes c.push-3.ensures.bytes c.push-4.ensures.bytes c.bits.ensures

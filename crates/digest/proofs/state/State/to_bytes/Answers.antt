@@ -9,10 +9,10 @@ pub loop-word-preserved : goal.loop-word-preserved
 loop-word-preserved c =
     let i = c.loop-word.word-index in
     let words : List ℕ = c.args.self.a ∷ c.args.self.b ∷ c.args.self.c ∷ c.args.self.d ∷ [] in
-    let l : length c.push.new.self ≡ length c.loop-word.bytes + length c.to_le_bytes.result = ap length c.push.ensures ∙ length-append c.loop-word.bytes c.to_le_bytes.result in
+    let l : length c.push.new.self ≡ length c.loop-word.bytes + length c.to_le_bytes.result = ap length c.push.ensures.bytes ∙ length-append c.loop-word.bytes c.to_le_bytes.result in
     let four : length c.to_le_bytes.result ≡ 4 = ap length c.to_le_bytes.ensures in (
       omega arith,
-      c.push.ensures ∙ ap (λ bs. bs ++ c.to_le_bytes.result) c.loop-word.invariant.1
+      c.push.ensures.bytes ∙ ap (λ bs. bs ++ c.to_le_bytes.result) c.loop-word.invariant.1
           ∙ ap (λ bs. flat_map (low_first 4) (take i words) ++ bs) (c.to_le_bytes.ensures ∙ bytes_are 4 (get_or words i 0))
           ∙ flat_map_more (low_first 4) [] (take i words) (get_or words i 0) ∙ ap (flat_map (low_first 4)) (sym (take_more words i 0 c.loop-word-test.true)),
     )
