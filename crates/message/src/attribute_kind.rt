@@ -1,8 +1,9 @@
 //! The kinds of attribute.
-ghost use Rattle.std.specs.Prelude.{◌≡◌, ◌∷◌};
+ghost use Rattle.std.specs.Prelude.{◌≡◌, Some, ◌∷◌};
 ghost use Rattle.message.specs.Tables.{beside};
 ghost use Rattle.message.specs.Values.{widths, within};
 ghost use Rattle.message.specs.Kinds.{number_of, numbered, widest, Found};
+ghost use Rattle.message.specs.Names.{attribute_name};
 
 use crate::unknown_number::UnknownNumber;
 use std::fmt;
@@ -104,6 +105,8 @@ impl TryFrom<u8> for AttributeKind {
 }
 
 impl fmt::Display for AttributeKind {
+    ghost output = { λ k. Some (attribute_name k) };
+
     fn fmt<W: fmt::Write>(&self, f: &mut fmt::Formatter<W>) -> fmt::Result {
         f.write_str(match self {
             AttributeKind::Header => "header",

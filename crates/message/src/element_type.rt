@@ -1,6 +1,7 @@
 //! The types of element.
-ghost use Rattle.std.specs.Prelude.{◌≡◌};
+ghost use Rattle.std.specs.Prelude.{◌≡◌, Some};
 ghost use Rattle.message.specs.Kinds.{element_number, element_listed, Found};
+ghost use Rattle.message.specs.Names.{element_name};
 
 use crate::unknown_number::UnknownNumber;
 use std::fmt;
@@ -42,6 +43,8 @@ impl TryFrom<u16> for ElementType {
 }
 
 impl fmt::Display for ElementType {
+    ghost output = { λ k. Some (element_name k) };
+
     fn fmt<W: fmt::Write>(&self, f: &mut fmt::Formatter<W>) -> fmt::Result {
         f.write_str(match self {
             ElementType::CallManagementServer => "call management server",

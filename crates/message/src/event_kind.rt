@@ -1,7 +1,8 @@
 //! The kinds of event.
-ghost use Rattle.std.specs.Prelude.{◌≡◌};
+ghost use Rattle.std.specs.Prelude.{◌≡◌, Some};
 ghost use Rattle.message.specs.Rules.{listed};
 ghost use Rattle.message.specs.Kinds.{event_number, Found};
+ghost use Rattle.message.specs.Names.{event_name};
 
 use crate::unknown_number::UnknownNumber;
 use std::fmt;
@@ -61,6 +62,8 @@ impl TryFrom<u16> for EventKind {
 }
 
 impl fmt::Display for EventKind {
+    ghost output = { λ k. Some (event_name k) };
+
     fn fmt<W: fmt::Write>(&self, f: &mut fmt::Formatter<W>) -> fmt::Result {
         f.write_str(match self {
             EventKind::SignalingStart => "Signaling_Start",

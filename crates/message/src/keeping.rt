@@ -26,28 +26,28 @@ impl Attributes {
         match kind {
             AttributeKind::Header => {}
             AttributeKind::EndpointName => self.endpoint_name = Some(EndpointName::read(value)),
-            AttributeKind::CallingPartyNumber => self.calling_party_number = Some(
-                TelephoneNumber::read(value, 0),
-            ),
-            AttributeKind::CalledPartyNumber => self.called_party_number = Some(
-                TelephoneNumber::read(value, 0),
-            ),
-            AttributeKind::TerminationCause => self.termination_cause = Some(TerminationCause::read(
-                value, 0,
-            )),
+            AttributeKind::CallingPartyNumber => {
+                self.calling_party_number = Some(TelephoneNumber::read(value, 0));
+            }
+            AttributeKind::CalledPartyNumber => {
+                self.called_party_number = Some(TelephoneNumber::read(value, 0));
+            }
+            AttributeKind::TerminationCause => {
+                self.termination_cause = Some(TerminationCause::read(value, 0));
+            }
             AttributeKind::RelatedCall => self.related_call = Some(Bcid::read(value, 0)),
-            AttributeKind::ChargeNumber => self.charge_number = Some(TelephoneNumber::read(
-                value, 0,
-            )),
-            AttributeKind::RoutingNumber => self.routing_number = Some(TelephoneNumber::read(
-                value, 0,
-            )),
+            AttributeKind::ChargeNumber => {
+                self.charge_number = Some(TelephoneNumber::read(value, 0));
+            }
+            AttributeKind::RoutingNumber => {
+                self.routing_number = Some(TelephoneNumber::read(value, 0));
+            }
             AttributeKind::UdpPort => self.udp_port = Some(u32::read(value, 0)),
             AttributeKind::ServiceFlow => self.service_flow = Some(u32::read(value, 0)),
             AttributeKind::Direction => self.direction = Some(u16::read(value, 0)),
-            AttributeKind::TimeAdjustment => self.time_adjustment = Some(TimeAdjustment::read(
-                value, 0,
-            )),
+            AttributeKind::TimeAdjustment => {
+                self.time_adjustment = Some(TimeAdjustment::read(value, 0));
+            }
             AttributeKind::FlowDirection => self.flow_direction = Some(u16::read(value, 0)),
         }
     }
