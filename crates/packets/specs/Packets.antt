@@ -3,7 +3,7 @@ use Rattle.std.specs.Prelude.{ℕ, cond, ◌||◌, List, length, take, Ok, Err, 
 use Rattle.wire.specs.Octets.{two_at}
 use Rattle.refusal.specs.declared.Fault.{Fault}
 use Rattle.refusal.specs.declared.Fault.TheVariants.{PacketSize, PacketCode, PacketLength}
-use Rattle.packets.specs.declared.TakenUp.{TakenUp}
+use Rattle.packets.specs.declared.taken_up.TakenUp.{TakenUp}
 
 unfoldable pub taken : List ℕ → Result (List ℕ) Fault
 taken bs =

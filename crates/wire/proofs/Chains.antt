@@ -3,10 +3,6 @@ use Rattle.std.proofs.Common.{◌≡◌, ℕ, ◌+◌, ◌≤◌, List, ◌++◌
 use Rattle.std.proofs.lemmas.List.{drop-drop, take_at, drop_at, length-take-le}
 use Rattle.wire.specs.Octets.{part_of}
 
--- one more part is written: z, which is known to be w
-pub then : (z : List ℕ) {s t y w : List ℕ} → t ≡ s → z ≡ w → y ≡ t ++ z → y ≡ s ++ w
-then z {s = s} p r q = q ∙ ap (λ x. x ++ z) p ∙ ap (λ x. s ++ x) r
-
 -- one more part is read
 pub join : (xs : List ℕ) (at i n : ℕ) {a b : List ℕ} → a ≡ take i (drop at xs) → b ≡ take n (drop (at + i) xs) → a ++ b ≡ take (i + n) (drop at xs)
 join xs at i n {a = a} p q =
@@ -22,7 +18,3 @@ parted a b c d h e =
 
 pub part_long : (b : List ℕ) (i n : ℕ) → i + n ≤ length b → length (part_of i n b) ≡ n
 part_long b i n h = let k : n ≤ length (drop i b) = omega (arith, length-drop i b) in length-take-le n (drop i b) k
-
--- what lies in the first n places of a buffer is as long as n says
-pub size_of : (n : ℕ) (b f : List ℕ) → n ≤ length b → take n b ≡ f → n ≡ length f
-size_of n b f h e = sym (length-take-le n b h) ∙ ap length e

@@ -33,7 +33,7 @@ impl FixedWidth<2> for u16 {
 
     #[tactic(auto, unfolding(crate::specs::Octets::two))]
     fn to_bytes(&self) -> [u8; 2] {
-        self.to_be_bytes()
+        u16::to_be_bytes(*self)
     }
 }
 
@@ -49,6 +49,6 @@ impl FixedWidth<4> for u32 {
 
     #[tactic(auto, unfolding(crate::specs::Octets::four))]
     fn to_bytes(&self) -> [u8; 4] {
-        self.to_be_bytes()
+        u32::to_be_bytes(*self)
     }
 }
