@@ -1,5 +1,5 @@
 //! The end of a message, padded to whole blocks: steps 1 and 2 of RFC 1321.
-ghost use Rattle.std.specs.Prelude.{◌≡◌, ℕ, ◌+◌, ◌*◌, ◌%◌, ◌^◌, ◌<◌, ◌≤◌, length};
+ghost use Rattle.std.specs.Prelude.{◌≡◌, ◌+◌, ◌*◌, ◌%◌, ◌^◌, ◌<◌, ◌≤◌, length};
 ghost use Rattle.digest.specs.Words.{low_first};
 ghost use Rattle.digest.specs.Padding.{closed};
 

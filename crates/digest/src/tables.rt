@@ -1,5 +1,5 @@
 //! The two tables of RFC 1321, by the number of the operation from 0.
-ghost use Rattle.std.specs.Prelude.{◌≡◌, ℕ, ◌<◌};
+ghost use Rattle.std.specs.Prelude.{◌≡◌, ◌<◌};
 ghost use Rattle.digest.specs.Operations.{sine_of, shift_of};
 
 /// What each operation adds: T[1] to T[64].

@@ -1,5 +1,5 @@
 //! A date of the calendar.
-ghost use Rattle.std.specs.Prelude.{◌≡◌, ◌-◌, ◌*◌, ◌≤◌, length, cond};
+ghost use Rattle.std.specs.Prelude.{◌≡◌, ◌-◌, ◌≤◌, cond};
 ghost use Rattle.fields.specs.Calendar.{leap, days_in, years, months, real, days_to};
 
 /// The numbers of a date, whether or not there is such a date.

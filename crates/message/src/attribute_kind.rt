@@ -1,5 +1,5 @@
 //! The kinds of attribute.
-ghost use Rattle.std.specs.Prelude.{◌≡◌, Some, ◌∷◌};
+ghost use Rattle.std.specs.Prelude.{◌≡◌, Some};
 ghost use Rattle.message.specs.Tables.{beside};
 ghost use Rattle.message.specs.Values.{widths, within};
 ghost use Rattle.message.specs.Kinds.{number_of, numbered, widest, Found};

@@ -1,5 +1,5 @@
 //! A header in 76 bytes, both ways.
-ghost use Rattle.std.specs.Prelude.{◌≡◌, ℕ, ◌+◌, ◌≤◌, ◌++◌, length, take};
+ghost use Rattle.std.specs.Prelude.{◌≡◌};
 ghost use Rattle.message.specs.Headers.{header_form, header_of};
 
 use crate::header::{Bcid, Header, SequenceNumber};

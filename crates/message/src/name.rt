@@ -1,5 +1,5 @@
 //! Names of endpoints.
-ghost use Rattle.std.specs.Prelude.{◌≡◌, ℕ, ◌≤◌, length};
+ghost use Rattle.std.specs.Prelude.{◌≡◌, ◌≤◌, length};
 ghost use Rattle.message.specs.Values.{name_of, name_form};
 
 use crate::attributes::EndpointName;

@@ -1,9 +1,9 @@
 //! The two ways in which the attributes of events follow one another.
-ghost use Rattle.std.specs.Prelude.{◌≡◌, ℕ, length, drop};
+ghost use Rattle.std.specs.Prelude.{◌≡◌, length};
 ghost use Rattle.forms.specs.declared.encoding.Encoding.{Encoding};
 ghost use Rattle.reading.specs.Tokens.{token_at, seen, Further};
 ghost use Rattle.reading.specs.Events.{value_in, start};
-ghost use Rattle.reading.specs.Readings.{or_empty, met_in};
+ghost use Rattle.reading.specs.Readings.{left, or_empty, met_in};
 ghost use Rattle.message.specs.Kinds.{number_of};
 
 use crate::cursor::Cursor;
@@ -22,7 +22,7 @@ pub trait Framing {
 
     /// The next attribute of an event from a place on.
     fn token<'a>(from: Cursor<'a>) -> Result<Option<Token<'a>>, Fault>
-        ensures read { seen from.entry.bytes.now result ≡ token_at encoding from.entry.place (drop from.entry.place from.entry.bytes.now) }
+        ensures read { seen from.entry.bytes.now result ≡ token_at encoding from.entry.place (left from.entry) }
         ensures further { Further from.entry.place (length from.entry.bytes.now) result };
 
     /// The value in the body of an attribute, if that has the form of one.

@@ -1,8 +1,5 @@
 //! The attributes of a packet, of which those of CableLabs make events.
-ghost use Rattle.std.specs.Prelude.{◌≡◌, ℕ, length, drop, is_some};
-ghost use Rattle.message.specs.Values.{value as value_of};
 ghost use Rattle.forms.specs.declared.encoding.Encoding.TheVariants.{Packet};
-ghost use Rattle.reading.specs.Tokens.{cable_at, seen, Further};
 
 use crate::attribute::Attribute;
 use crate::cursor::Cursor;
@@ -27,8 +24,29 @@ impl Framing for VendorAttributes {
         20
     }
 
+    // The first CableLabs attribute; all others are skipped.
     fn token<'a>(from: Cursor<'a>) -> Result<Option<Token<'a>>, Fault> {
-        cable_at(from)
+        let bytes = from.bytes;
+        let mut place = from.place;
+        while let Some(attribute) = attribute_at(Cursor { bytes, place })? {
+            match attribute {
+                Attribute::CableLabs {
+                    number,
+                    value,
+                    at,
+                    next,
+                } => {
+                    return Ok(Some(Token {
+                        at,
+                        number,
+                        body: value,
+                        next,
+                    }));
+                }
+                Attribute::Other { next, .. } => place = next,
+            }
+        }
+        Ok(None)
     }
 
     fn value<'a>(_kind: AttributeKind, body: &'a [u8]) -> Option<&'a [u8]> {
@@ -38,37 +56,4 @@ impl Framing for VendorAttributes {
     fn is_met(kind: AttributeKind, _last: u8, attributes: &Attributes) -> bool {
         attributes.has(kind)
     }
-}
-
-// The first CableLabs attribute from a place on; all others are skipped.
-fn cable_at<'a>(from: Cursor<'a>) -> Result<Option<Token<'a>>, Fault>
-    ensures read { seen from.entry.bytes.now result ≡ cable_at from.entry.place (drop from.entry.place from.entry.bytes.now) }
-    ensures further { Further from.entry.place (length from.entry.bytes.now) result }
-{
-    let bytes = from.bytes;
-    let mut place = from.place;
-    while let Some(attribute) = attribute_at(Cursor { bytes, place })? {
-        match attribute {
-            Attribute::CableLabs {
-                number,
-                value,
-                at,
-                next,
-            } => {
-                return Ok(Some(Token {
-                    at,
-                    number,
-                    body: value,
-                    next,
-                }));
-            }
-            Attribute::Other {
-                kind: _,
-                value: _,
-                at: _,
-                next,
-            } => place = next,
-        }
-    }
-    Ok(None)
 }

@@ -1,5 +1,6 @@
 //! The walk over the attributes of a packet, one after another.
-ghost use Rattle.std.specs.Prelude.{◌≡◌, ℕ, ◌+◌, ◌≤◌, min, List, length, drop};
+ghost use Rattle.std.specs.Prelude.{◌≡◌, ℕ, min, List, length, drop};
+ghost use Rattle.reading.specs.Readings.{left};
 ghost use Rattle.reading.specs.Walks.{attribute_at, vendor_in, viewed, next_place, Onward, Behind, end_of, gone};
 
 use crate::attribute::Attribute;
@@ -37,7 +38,7 @@ fn vendor<'a>(value: &'a [u8], at: usize, next: usize) -> Result<Option<Attribut
 
 /// The attribute that stands at a place.
 pub(crate) fn attribute_at<'a>(from: Cursor<'a>) -> Result<Option<Attribute<'a>>, Fault>
-    ensures read { viewed (drop (next_place result) from.entry.bytes.now) result ≡ attribute_at from.entry.place (drop from.entry.place from.entry.bytes.now) }
+    ensures read { viewed (drop (next_place result) from.entry.bytes.now) result ≡ attribute_at from.entry.place (left from.entry) }
     ensures onward { Onward from.entry.place (length from.entry.bytes.now) result }
 {
     let bytes = from.bytes;
@@ -72,18 +73,7 @@ impl<'a> Attribute<'a> {
         ensures { result ≡ end_of self.now }
     {
         match self {
-            Attribute::CableLabs {
-                number: _,
-                value: _,
-                at: _,
-                next,
-            } => *next,
-            Attribute::Other {
-                kind: _,
-                value: _,
-                at: _,
-                next,
-            } => *next,
+            Attribute::CableLabs { next, .. } | Attribute::Other { next, .. } => *next,
         }
     }
 }
@@ -107,7 +97,7 @@ impl<'a> Walk<'a> {
 
     /// What is left of the packet; the place never lies beyond it.
     pub fn rest(&self) -> &'a [u8]
-        ensures { result.now ≡ drop self.now.cursor.place self.now.cursor.bytes.now }
+        ensures { result.now ≡ left self.now.cursor }
     {
         self.cursor.rest()
     }
@@ -115,7 +105,7 @@ impl<'a> Walk<'a> {
     /// The attribute at the place, and goes past it; on the end and on a fault it stays put.
     pub fn next(&mut self) -> Result<Option<Attribute<'a>>, Fault>
         ensures bytes { self.new.cursor.bytes.now ≡ self.old.cursor.bytes.now }
-        ensures read { viewed (drop (next_place result) self.old.cursor.bytes.now) result ≡ attribute_at self.old.cursor.place (drop self.old.cursor.place self.old.cursor.bytes.now) }
+        ensures read { viewed (drop (next_place result) self.old.cursor.bytes.now) result ≡ attribute_at self.old.cursor.place (left self.old.cursor) }
         ensures place { self.new.cursor.place ≡ gone self.old.cursor.place result }
     {
         let found = attribute_at(self.cursor);

@@ -1,5 +1,5 @@
 //! Memory of a fixed size, and the bytes that were laid down in it.
-ghost use Rattle.std.specs.Prelude.{◌≡◌, ℕ, ◌+◌, ◌-◌, ◌≤◌, List, [], ◌++◌, length, take, drop, replicate};
+ghost use Rattle.std.specs.Prelude.{◌≡◌, ℕ, ◌+◌, ◌-◌, ◌≤◌, List, [], ◌++◌, length, take, replicate};
 ghost use Rattle.wire.specs.Filled.{Filled, counted, refilled};
 
 use std::marker::Model;

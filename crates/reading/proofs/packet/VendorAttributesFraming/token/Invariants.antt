@@ -1,6 +1,6 @@
 use Rattle.std.proofs.Common.{◌≡◌, ℕ, ◌+◌, ◌-◌, ◌<◌, ◌≤◌, length, drop}
 use Rattle.reading.specs.Tokens.{pick, cable_at}
-use Rattle.reading.proofs.packet.cable_at.Given as goal
+use Rattle.reading.proofs.packet.VendorAttributesFraming.token.Given as goal
 
 abbrev pub invariant-loop-attribute : goal.invariant-loop-attribute
 invariant-loop-attribute l =
