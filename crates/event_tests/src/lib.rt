@@ -7,7 +7,6 @@ mod tests {
     use forms::order::compare;
     use message::event::Event;
     use packets::TakenUp;
-    use reading::ending::{Ending, Handed};
     use reading::feeds::Feed;
     use reading::packet::PacketFeed;
     use reading::spool::SpoolFeed;
@@ -44,7 +43,7 @@ mod tests {
         let mut feed = SpoolFeed::new(&ALIVE[0..76]);
         let mut place = Event::media_alive();
         match feed.next(&mut place) {
-            Handed::Over(Ending::Broken(fault)) => {
+            Err(fault) => {
                 assert!(rt; fault == Fault::CutItem { at: 0 });
                 Ok(())
             },
@@ -64,7 +63,7 @@ mod tests {
             Ok(packet) => {
                 let mut feed = PacketFeed::read_out(packet);
                 match feed.next(&mut place) {
-                    Handed::At(58) => {
+                    Ok(Some(58)) => {
                         assert!(rt; compare(&event, &place) == Ordering::Equal);
                         Ok(())
                     },

@@ -5,7 +5,6 @@ use crate::refused::Refused;
 use forms::encoding::Encoding;
 use forms::form::Form;
 use message::event::Event;
-use reading::ending::Ending;
 use std::io;
 
 // Two events are the same exactly when their forms are equal.
@@ -44,8 +43,8 @@ fn show_pairs(rt: &HostRuntime, written: &[Met], read: &[Met]) -> io::Result<boo
 pub fn compare_all(rt: &HostRuntime, written: &[Met], again: &Reading) -> io::Result<()> {
     let same = show_pairs(rt, written, &again.met)?;
     match again.ending {
-        Ending::End => println!(rt; "  then it ends")?,
-        Ending::Broken(fault) => println!(rt; "  then it is {}", Refused(fault))?,
+        Ok(()) => println!(rt; "  then it ends")?,
+        Err(fault) => println!(rt; "  then it is {}", Refused(fault))?,
     }
     let expected = written.len();
     let count = again.met.len();

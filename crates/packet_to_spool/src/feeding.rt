@@ -1,7 +1,7 @@
 //! Everything that a feed hands over.
 use message::event::Event;
-use reading::ending::{Ending, Handed};
 use reading::feeds::Feed;
+use refusal::Fault;
 use std::alloc::{AllocError, Global};
 
 /// An event, with the offset of its header.
@@ -14,7 +14,7 @@ pub struct Met {
 #[derive(Drop)]
 pub struct Reading {
     pub met: Vec<Met>,
-    pub ending: Ending,
+    pub ending: Result<(), Fault>,
 }
 
 /// Asks a feed until it ends.
@@ -23,8 +23,19 @@ pub fn read_all<F: Feed>(heap: Global, feed: &mut F) -> Result<Reading, AllocErr
     loop {
         let mut event = Event::media_alive();
         match feed.next(&mut event) {
-            Handed::At(at) => met.push(Met { event, at })?,
-            Handed::Over(ending) => return Ok(Reading { met, ending }),
+            Ok(Some(at)) => met.push(Met { event, at })?,
+            Ok(None) => {
+                return Ok(Reading {
+                    met,
+                    ending: Ok(()),
+                })
+            }
+            Err(fault) => {
+                return Ok(Reading {
+                    met,
+                    ending: Err(fault),
+                })
+            }
         }
     }
 }

@@ -23,7 +23,6 @@ use crate::spooling::spool_and_compare;
 use crate::telling::show_event;
 use crate::walking::show_attributes;
 use packets::TakenUp;
-use reading::ending::Ending;
 use reading::packet::PacketFeed;
 use std::io;
 
@@ -44,8 +43,8 @@ fn show_reading(rt: &HostRuntime, reading: &Reading) -> io::Result<()> {
         show_event(rt, number, met)?;
     }
     match reading.ending {
-        Ending::End => println!(rt; "Events read: {number}. Then the packet ends.\n"),
-        Ending::Broken(fault) => println!(rt;
+        Ok(()) => println!(rt; "Events read: {number}. Then the packet ends.\n"),
+        Err(fault) => println!(rt;
             "Events read: {number}. Then the packet is {}\n",
             Refused(fault)
         ),

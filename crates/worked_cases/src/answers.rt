@@ -2,7 +2,6 @@
 use crate::told::Refused;
 use message::event::Event;
 use packets::TakenUp;
-use reading::ending::{Ending, Handed};
 use reading::feeds::Feed;
 use reading::packet::PacketFeed;
 use reading::spool::SpoolFeed;
@@ -27,12 +26,12 @@ fn show_feed<F: Feed>(rt: &HostRuntime, feed: &mut F) -> io::Result<()> {
     loop {
         let mut event = Event::media_alive();
         match feed.next(&mut event) {
-            Handed::At(at) => {
+            Ok(Some(at)) => {
                 let name = kind_name(event.header.kind);
                 println!(rt; "    {name} at {at}")?;
             }
-            Handed::Over(Ending::End) => return println!(rt; "    end"),
-            Handed::Over(Ending::Broken(fault)) => return println!(rt; "    {}", Refused(fault)),
+            Ok(None) => return println!(rt; "    end"),
+            Err(fault) => return println!(rt; "    {}", Refused(fault)),
         }
     }
 }

@@ -5,6 +5,7 @@ use crate::answers::{show_packet, show_spool};
 use crate::building::{header_of, packet_of, push_attribute, push_item};
 use std::alloc::{AllocError, Global};
 use std::io;
+use wire::FixedWidth;
 
 const TELEPHONE: [u8; 20] = *b"             service";
 
@@ -15,7 +16,7 @@ fn packet_with(heap: Global, name: &[u8]) -> Result<Vec<u8>, AllocError>
     requires { length name.now ≤ 76 }
 {
     let mut attributes = Vec::new(heap);
-    push_attribute(&mut attributes, 1, &header_of(1, 4).bytes())?;
+    push_attribute(&mut attributes, 1, &header_of(1, 4).to_bytes())?;
     push_attribute(&mut attributes, 3, name)?;
     push_attribute(&mut attributes, 5, &TELEPHONE)?;
     push_attribute(&mut attributes, 25, &TELEPHONE)?;
@@ -26,7 +27,7 @@ fn packet_with(heap: Global, name: &[u8]) -> Result<Vec<u8>, AllocError>
 // In a spool it has its length in front, and always 32 bytes.
 fn spool_with(heap: Global, length: u8, name: &[u8; 32]) -> Result<Vec<u8>, AllocError> {
     let mut spool = Vec::new(heap);
-    push_item(&mut spool, 1, &header_of(1, 4).bytes())?;
+    push_item(&mut spool, 1, &header_of(1, 4).to_bytes())?;
     push_item(&mut spool, 3, &[length])?;
     spool.extend_from_slice(name)?;
     push_item(&mut spool, 5, &TELEPHONE)?;
