@@ -7,6 +7,7 @@ ghost use Rattle.reading.specs.Feeding.{handed, rest, placed};
 use message::event::Event;
 use refusal::Fault;
 
+// No `Iterator`: a feed stays put at a fault, and hands an event over in a place that the caller lends.
 pub trait Feed {
     /// The events still to come, each with the offset of its header.
     ghost coming: { Self → List (Event × ℕ) };

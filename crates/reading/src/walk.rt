@@ -103,6 +103,7 @@ impl<'a> Walk<'a> {
     }
 
     /// The attribute at the place, and goes past it; on the end and on a fault it stays put.
+    // No `Iterator`: one that stays put at a fault would hand it out for ever, and a `for` over it would not end.
     pub fn next(&mut self) -> Result<Option<Attribute<'a>>, Fault>
         ensures bytes { self.new.cursor.bytes.now ≡ self.old.cursor.bytes.now }
         ensures read { viewed (drop (next_place result) self.old.cursor.bytes.now) result ≡ attribute_at self.old.cursor.place (left self.old.cursor) }
