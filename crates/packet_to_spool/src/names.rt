@@ -28,19 +28,3 @@ pub fn radius_name(kind: u8) -> &'static str {
         _ => "unknown",
     }
 }
-
-pub fn direction_name(direction: u16) -> &'static str {
-    match direction {
-        1 => "originating",
-        2 => "terminating",
-        _ => "undefined",
-    }
-}
-
-pub fn flow_name(direction: u16) -> &'static str {
-    match direction {
-        1 => "upstream",
-        2 => "downstream",
-        _ => "undefined",
-    }
-}

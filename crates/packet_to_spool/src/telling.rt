@@ -1,10 +1,9 @@
 //! An event in words.
 use crate::feeding::Met;
-use crate::names::{direction_name, flow_name};
-use crate::text::Text;
-use crate::values::{Call, Moment};
+use crate::text::{Quoted, Text};
+use crate::values::{Adjustment, Call, Cause, Direction, Flow, Moment};
 use message::attribute_kind::AttributeKind;
-use message::attributes::{Attributes, TelephoneNumber};
+use message::attributes::{Attributes, EndpointName, TelephoneNumber};
 use message::event::Event;
 use message::header::Header;
 use std::{fmt, io};
@@ -29,10 +28,10 @@ fn show_origin(rt: &HostRuntime, event: &Event) -> io::Result<()> {
     let version = header.version_id;
     let element = event.element_type();
     println!(rt; "  version          {version}")?;
-    println!(rt; "  call             {}", Call(&header.bcid))?;
+    println!(rt; "  call             {}", Call(header.bcid))?;
     println!(rt;
-        "  element          \"{}\", type {} ({element}), zone {}",
-        Text(&header.element_id.0),
+        "  element          {}, type {} ({element}), zone {}",
+        Quoted(&header.element_id.0),
         element.number(),
         Text(&header.time_zone.0)
     )
@@ -49,89 +48,60 @@ fn show_message(rt: &HostRuntime, header: &Header) -> io::Result<()> {
     println!(rt; "  sequence number  {sequence}")?;
     println!(rt;
         "  time             {}, {milliseconds} milliseconds since 2000",
-        Moment(&header.event_time)
+        Moment(header.event_time)
     )?;
     println!(rt; "  status           {status}, priority {priority}, event object {object}")?;
     println!(rt; "  attributes       {count}")
 }
 
-// A line for an attribute that is there.
+// A line for an attribute, if it is there.
 fn show_value(
     rt: &HostRuntime,
     kind: AttributeKind,
-    value: impl fmt::Display + Drop,
+    value: Option<impl fmt::Display + Drop>,
 ) -> io::Result<()> {
-    println!(rt; "    {:>2} {kind}: {value}", kind.number())
+    match value {
+        Some(value) => println!(rt; "    {:>2} {kind}: {value}", kind.number()),
+        None => Ok(()),
+    }
+}
+
+fn show_name(rt: &HostRuntime, name: &Option<EndpointName>) -> io::Result<()> {
+    let text = name.as_ref().map(|name| Quoted(name.as_bytes()));
+    show_value(rt, AttributeKind::EndpointName, text)
 }
 
 fn show_telephone(
     rt: &HostRuntime,
     kind: AttributeKind,
-    value: &Option<TelephoneNumber>,
+    telephone: &Option<TelephoneNumber>,
 ) -> io::Result<()> {
-    match value {
-        Some(telephone) => show_value(rt, kind, format_args!("\"{}\"", Text(&telephone.0))),
-        None => Ok(()),
-    }
-}
-
-fn show_number(rt: &HostRuntime, kind: AttributeKind, value: &Option<u32>) -> io::Result<()> {
-    match value {
-        Some(value) => show_value(rt, kind, value),
-        None => Ok(()),
-    }
+    show_value(rt, kind, telephone.as_ref().map(|number| Quoted(&number.0)))
 }
 
 fn show_values(rt: &HostRuntime, a: &Attributes) -> io::Result<()> {
-    if let Some(name) = a.endpoint_name {
-        show_value(
-            rt,
-            AttributeKind::EndpointName,
-            format_args!("\"{}\"", Text(name.as_bytes())),
-        )?;
-    }
+    show_name(rt, &a.endpoint_name)?;
     show_telephone(
         rt,
         AttributeKind::CallingPartyNumber,
         &a.calling_party_number,
     )?;
     show_telephone(rt, AttributeKind::CalledPartyNumber, &a.called_party_number)?;
-    if let Some(cause) = a.termination_cause {
-        let code = cause.cause_code;
-        let document = cause.source_document;
-        show_value(
-            rt,
-            AttributeKind::TerminationCause,
-            format_args!("Source_Document={document}, Cause_Code={code}"),
-        )?;
-    }
-    if let Some(call) = a.related_call {
-        show_value(rt, AttributeKind::RelatedCall, Call(&call))?;
-    }
+    show_value(
+        rt,
+        AttributeKind::TerminationCause,
+        a.termination_cause.map(Cause),
+    )?;
+    show_value(rt, AttributeKind::RelatedCall, a.related_call.map(Call))?;
     show_telephone(rt, AttributeKind::ChargeNumber, &a.charge_number)?;
     show_telephone(rt, AttributeKind::RoutingNumber, &a.routing_number)?;
-    show_number(rt, AttributeKind::UdpPort, &a.udp_port)?;
-    show_number(rt, AttributeKind::ServiceFlow, &a.service_flow)?;
-    if let Some(direction) = a.direction {
-        show_value(
-            rt,
-            AttributeKind::Direction,
-            format_args!("{direction} ({})", direction_name(direction)),
-        )?;
-    }
-    if let Some(adjustment) = a.time_adjustment {
-        show_value(
-            rt,
-            AttributeKind::TimeAdjustment,
-            format_args!("{} milliseconds", adjustment.milliseconds()),
-        )?;
-    }
-    if let Some(direction) = a.flow_direction {
-        show_value(
-            rt,
-            AttributeKind::FlowDirection,
-            format_args!("{direction} ({})", flow_name(direction)),
-        )?;
-    }
-    Ok(())
+    show_value(rt, AttributeKind::UdpPort, a.udp_port)?;
+    show_value(rt, AttributeKind::ServiceFlow, a.service_flow)?;
+    show_value(rt, AttributeKind::Direction, a.direction.map(Direction))?;
+    show_value(
+        rt,
+        AttributeKind::TimeAdjustment,
+        a.time_adjustment.map(Adjustment),
+    )?;
+    show_value(rt, AttributeKind::FlowDirection, a.flow_direction.map(Flow))
 }

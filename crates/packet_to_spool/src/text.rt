@@ -16,3 +16,13 @@ impl fmt::Display for Text<'_> {
         Ok(())
     }
 }
+
+/// Text in quotes.
+#[derive(Drop)]
+pub struct Quoted<'a>(pub &'a [u8]);
+
+impl fmt::Display for Quoted<'_> {
+    fn fmt<W: fmt::Write>(&self, f: &mut fmt::Formatter<W>) -> fmt::Result {
+        write!(f, "\"{}\"", Text(self.0))
+    }
+}
