@@ -11,6 +11,7 @@ pub struct Met {
     pub at: usize,
 }
 
+/// The events before the end, or before a fault.
 #[derive(Drop)]
 pub struct Reading {
     pub met: Vec<Met>,
@@ -20,22 +21,13 @@ pub struct Reading {
 /// Asks a feed until it ends.
 pub fn read_all<F: Feed>(heap: Global, feed: &mut F) -> Result<Reading, AllocError> {
     let mut met = Vec::new(heap);
-    loop {
+    let ending = loop {
         let mut event = Event::media_alive();
         match feed.next(&mut event) {
             Ok(Some(at)) => met.push(Met { event, at })?,
-            Ok(None) => {
-                return Ok(Reading {
-                    met,
-                    ending: Ok(()),
-                })
-            }
-            Err(fault) => {
-                return Ok(Reading {
-                    met,
-                    ending: Err(fault),
-                })
-            }
+            Ok(None) => break Ok(()),
+            Err(fault) => break Err(fault),
         }
-    }
+    };
+    Ok(Reading { met, ending })
 }

@@ -1,21 +1,16 @@
 //! What stands before the attributes of a packet.
-use crate::text::Hex;
 use std::io;
-
-fn show_numbers(rt: &HostRuntime, front: &[u8; 20]) -> io::Result<()> {
-    let code = front[0];
-    let identifier = front[1];
-    let length = u16::from_be_bytes([front[2], front[3]]);
-    println!(rt; "  code           {code}, an Accounting-Request")?;
-    println!(rt; "  identifier     {identifier}")?;
-    println!(rt; "  Length         {length}")
-}
 
 pub fn show_front(rt: &HostRuntime, packet: &[u8]) -> io::Result<()> {
     let Some((front, _)) = packet.split_first_chunk::<20>() else {
         return Ok(());
     };
+    let [code, identifier, high, low, ..] = *front;
+    let length = u16::from_be_bytes([high, low]);
+    let authenticator = hex::encode(rt.alloc(), &front[4..])?;
     println!(rt; "The packet is taken up.")?;
-    show_numbers(rt, front)?;
-    println!(rt; "  authenticator  {}\n", Hex(&front[4..20]))
+    println!(rt; "  code           {code}, an Accounting-Request")?;
+    println!(rt; "  identifier     {identifier}")?;
+    println!(rt; "  Length         {length}")?;
+    println!(rt; "  authenticator  {authenticator}\n")
 }

@@ -1,8 +1,8 @@
 //! Hexadecimal text from standard input: white space and comments from `#` to the end of a line are left out.
 use crate::text::Text;
-use std::alloc::{AllocError, Global};
-use std::io::Read;
+use std::io::{BufReader, Read};
 use std::{fmt, io};
+use wire::Buffer;
 
 /// How many bytes are taken at most, which is more than a packet may have.
 const MOST: usize = 4200;
@@ -32,45 +32,34 @@ impl fmt::Display for Stop {
     }
 }
 
-/// What was read, and why it is not all.
+/// What was read, up to the end or to what stopped it.
 #[derive(Drop)]
 pub struct Hexadecimal {
-    pub bytes: Vec<u8>,
-    pub stop: Option<Stop>,
+    pub bytes: Buffer<MOST>,
+    pub ending: Result<(), Stop>,
 }
 
 /// Takes text in, a byte at a time.
 #[derive(Drop)]
 struct Decoder {
-    bytes: Vec<u8>,
+    bytes: Buffer<MOST>,
     /// The first digit of a byte, until the second is there.
     high: Option<u8>,
     line: u64,
     in_comment: bool,
-    stop: Option<Stop>,
-}
-
-fn digit(byte: u8) -> Option<u8> {
-    match byte {
-        b'0'..=b'9' => Some(byte - b'0'),
-        b'a'..=b'f' => Some(byte - b'a' + 10),
-        b'A'..=b'F' => Some(byte - b'A' + 10),
-        _ => None,
-    }
 }
 
 impl Decoder {
-    fn new(heap: Global) -> Decoder {
+    fn new() -> Decoder {
         Decoder {
-            bytes: Vec::new(heap),
+            bytes: Buffer::new(),
             high: None,
             line: 1,
             in_comment: false,
-            stop: None,
         }
     }
 
-    fn take(&mut self, byte: u8) -> Result<(), AllocError> {
+    fn take(&mut self, byte: u8) -> Result<(), Stop> {
         match byte {
             b'\n' => {
                 self.line = self.line.saturating_add(1);
@@ -78,77 +67,56 @@ impl Decoder {
             }
             b'#' => self.in_comment = true,
             b' ' | b'\t' | b'\r' => {}
-            _ => {
-                if !self.in_comment {
-                    self.take_digit(byte)?;
-                }
-            }
+            _ if self.in_comment => {}
+            _ => self.take_digit(byte)?,
         }
         Ok(())
     }
 
-    fn take_digit(&mut self, byte: u8) -> Result<(), AllocError> {
-        let Some(low) = digit(byte) else {
-            self.stop = Some(Stop::BadDigit {
-                byte,
-                line: self.line,
-            });
-            return Ok(());
-        };
+    fn take_digit(&mut self, byte: u8) -> Result<(), Stop> {
+        let line = self.line;
+        let digit = char::from(byte)
+            .to_digit(16)
+            .ok_or(Stop::BadDigit { byte, line })? as u8;
+        match self.high.take() {
+            None => self.high = Some(digit),
+            Some(high) => self.push(high << 4 | digit)?,
+        }
+        Ok(())
+    }
+
+    fn push(&mut self, byte: u8) -> Result<(), Stop> {
+        if self.bytes.as_bytes().len() == MOST {
+            return Err(Stop::Full);
+        }
+        self.bytes.push(&[byte]);
+        Ok(())
+    }
+
+    fn finish(&self) -> Result<(), Stop> {
         match self.high {
-            None => self.high = Some(low),
-            Some(high) => {
-                if self.bytes.len() >= MOST {
-                    self.stop = Some(Stop::Full);
-                    return Ok(());
-                }
-                self.bytes.push((high << 4) | low)?;
-                self.high = None;
-            }
+            Some(_) => Err(Stop::LoneDigit),
+            None => Ok(()),
         }
-        Ok(())
-    }
-
-    fn finish(self) -> Hexadecimal {
-        let Decoder {
-            bytes,
-            high,
-            line: _,
-            in_comment: _,
-            stop,
-        } = self;
-        let stop = match stop {
-            None => match high {
-                Some(_) => Some(Stop::LoneDigit),
-                None => None,
-            },
-            stop => stop,
-        };
-        Hexadecimal { bytes, stop }
     }
 }
 
-// Whether to go on.
-fn take_all(decoder: &mut Decoder, text: &[u8]) -> Result<bool, AllocError> {
-    for byte in text {
-        decoder.take(*byte)?;
-        if decoder.stop.is_some() {
-            return Ok(false);
-        }
-    }
-    Ok(true)
-}
-
-/// Reads standard input up to its end, or to what stops it.
-pub fn read_hex(rt: &HostRuntime) -> io::Result<Hexadecimal> {
-    let mut stdin = rt.stdin();
-    let mut decoder = Decoder::new(rt.alloc());
-    for _ in 0..u64::MAX {
-        let mut chunk = [0u8; 512];
-        let count = stdin.read(&mut chunk)?;
-        if count == 0 || !take_all(&mut decoder, &chunk[0..count])? {
-            break;
+// Takes standard input in, up to its end or to what stops it.
+fn take_all(rt: &HostRuntime, decoder: &mut Decoder) -> io::Result<Result<(), Stop>> {
+    for byte in BufReader::new(rt.alloc(), rt.stdin())?.bytes() {
+        if let Err(stop) = decoder.take(byte?) {
+            return Ok(Err(stop));
         }
     }
     Ok(decoder.finish())
+}
+
+/// Reads standard input.
+pub fn read_hex(rt: &HostRuntime) -> io::Result<Hexadecimal> {
+    let mut decoder = Decoder::new();
+    let ending = take_all(rt, &mut decoder)?;
+    Ok(Hexadecimal {
+        bytes: decoder.bytes,
+        ending,
+    })
 }

@@ -27,9 +27,9 @@ use reading::packet::PacketFeed;
 use std::io;
 
 fn show_input(rt: &HostRuntime, input: &Hexadecimal) -> io::Result<()> {
-    let count = input.bytes.len();
+    let count = input.bytes.as_bytes().len();
     println!(rt; "{count} bytes were read from hexadecimal text.")?;
-    if let Some(stop) = input.stop {
+    if let Err(stop) = input.ending {
         println!(rt; "Reading ended early: {stop}")?;
     }
     println!(rt)
@@ -37,15 +37,14 @@ fn show_input(rt: &HostRuntime, input: &Hexadecimal) -> io::Result<()> {
 
 // What was met before a fault is shown all the same.
 fn show_reading(rt: &HostRuntime, reading: &Reading) -> io::Result<()> {
-    let mut number = 0u32;
-    for met in &reading.met {
-        number = number.saturating_add(1);
+    for (number, met) in (1..).zip(&reading.met) {
         show_event(rt, number, met)?;
     }
+    let count = reading.met.len();
     match reading.ending {
-        Ok(()) => println!(rt; "Events read: {number}. Then the packet ends.\n"),
+        Ok(()) => println!(rt; "Events read: {count}. Then the packet ends.\n"),
         Err(fault) => println!(rt;
-            "Events read: {number}. Then the packet is {}\n",
+            "Events read: {count}. Then the packet is {}\n",
             Refused(fault)
         ),
     }
@@ -73,7 +72,7 @@ fn follow(rt: &HostRuntime, packet: TakenUp) -> io::Result<()> {
 fn main(rt: HostRuntime) -> io::Result<()> {
     let input = read_hex(&rt)?;
     show_input(&rt, &input)?;
-    match TakenUp::take_up(&input.bytes) {
+    match TakenUp::take_up(input.bytes.as_bytes()) {
         Ok(packet) => follow(&rt, packet),
         Err(fault) => println!(rt; "The packet is {}", Refused(fault)),
     }

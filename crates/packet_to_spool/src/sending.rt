@@ -5,7 +5,7 @@ use crate::front::show_front;
 use crate::refused::Refused;
 use packets::TakenUp;
 use reading::packet::PacketFeed;
-use std::io;
+use std::{io, slice};
 use writing::request::write_packet;
 
 const IDENTIFIER: u8 = 7;
@@ -26,7 +26,7 @@ fn receive(rt: &HostRuntime, sent: &Met, bytes: &[u8]) -> io::Result<()> {
     let again = read_all(rt.alloc(), &mut PacketFeed::read_out(packet))?;
     show_front(rt, held)?;
     println!(rt; "It is read back.")?;
-    compare_all(rt, &[*sent], &again)
+    compare_all(rt, slice::from_ref(sent), &again)
 }
 
 /// Writes an event as a packet, and reads that back.
@@ -35,10 +35,7 @@ pub fn send(rt: &HostRuntime, met: &Met) -> io::Result<()> {
     match write_packet(&met.event, IDENTIFIER, &ADDRESS, &SECRET, &mut buffer) {
         Ok(length) => {
             println!(rt; "The first event is written as a packet of its own: {length} bytes.")?;
-            match buffer.get(0..length) {
-                Some(packet) => receive(rt, met, packet),
-                None => Ok(()),
-            }
+            receive(rt, met, &buffer[..length])
         }
         Err(fault) => println!(rt; "The first event is {}", Refused(fault)),
     }

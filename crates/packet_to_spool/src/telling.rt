@@ -1,34 +1,38 @@
 //! An event in words.
 use crate::feeding::Met;
-use crate::names::{attribute_name, direction_name, element_name, flow_name, kind_name};
-use crate::text::Text;
-use crate::values::{Call, Moment};
-use message::attributes::{Attributes, TelephoneNumber};
+use crate::text::{Quoted, Text};
+use crate::values::{Adjustment, Call, Cause, Direction, Flow, Moment};
+use message::attribute_kind::AttributeKind;
+use message::attributes::{Attributes, EndpointName, TelephoneNumber};
+use message::event::Event;
 use message::header::Header;
 use std::{fmt, io};
 
-pub fn show_event(rt: &HostRuntime, number: u32, met: &Met) -> io::Result<()> {
+pub fn show_event(rt: &HostRuntime, number: usize, met: &Met) -> io::Result<()> {
+    let event = &met.event;
     let at = met.at;
-    let header = &met.event.header;
-    let kind = header.kind;
-    let name = kind_name(kind);
-    println!(rt; "Event {number}: {name} ({kind}), its header at {at}")?;
-    show_origin(rt, header)?;
-    show_message(rt, header)?;
-    show_values(rt, &met.event.attributes)?;
+    let kind = event.kind();
+    println!(rt;
+        "Event {number}: {kind} ({}), its header at {at}",
+        kind.number()
+    )?;
+    show_origin(rt, event)?;
+    show_message(rt, &event.header)?;
+    show_values(rt, &event.attributes)?;
     println!(rt)
 }
 
 // The call, and the element that tells of it.
-fn show_origin(rt: &HostRuntime, header: &Header) -> io::Result<()> {
+fn show_origin(rt: &HostRuntime, event: &Event) -> io::Result<()> {
+    let header = &event.header;
     let version = header.version_id;
-    let element_type = header.element_type;
-    let element = element_name(element_type);
+    let element = event.element_type();
     println!(rt; "  version          {version}")?;
-    println!(rt; "  call             {}", Call(&header.bcid))?;
+    println!(rt; "  call             {}", Call(header.bcid))?;
     println!(rt;
-        "  element          \"{}\", type {element_type} ({element}), zone {}",
-        Text(&header.element_id.0),
+        "  element          {}, type {} ({element}), zone {}",
+        Quoted(&header.element_id.0),
+        element.number(),
         Text(&header.time_zone.0)
     )
 }
@@ -44,74 +48,60 @@ fn show_message(rt: &HostRuntime, header: &Header) -> io::Result<()> {
     println!(rt; "  sequence number  {sequence}")?;
     println!(rt;
         "  time             {}, {milliseconds} milliseconds since 2000",
-        Moment(&header.event_time)
+        Moment(header.event_time)
     )?;
     println!(rt; "  status           {status}, priority {priority}, event object {object}")?;
     println!(rt; "  attributes       {count}")
 }
 
-// A line for an attribute that is there.
-fn show_value(rt: &HostRuntime, number: u8, value: impl fmt::Display + Drop) -> io::Result<()> {
-    let name = attribute_name(number);
-    println!(rt; "    {number:>2} {name}: {value}")
-}
-
-fn show_telephone(rt: &HostRuntime, number: u8, value: &Option<TelephoneNumber>) -> io::Result<()> {
+// A line for an attribute, if it is there.
+fn show_value(
+    rt: &HostRuntime,
+    kind: AttributeKind,
+    value: Option<impl fmt::Display + Drop>,
+) -> io::Result<()> {
     match value {
-        Some(telephone) => show_value(rt, number, format_args!("\"{}\"", Text(&telephone.0))),
+        Some(value) => println!(rt; "    {:>2} {kind}: {value}", kind.number()),
         None => Ok(()),
     }
 }
 
-fn show_number(rt: &HostRuntime, number: u8, value: &Option<u32>) -> io::Result<()> {
-    match value {
-        Some(value) => show_value(rt, number, value),
-        None => Ok(()),
-    }
+fn show_name(rt: &HostRuntime, name: &Option<EndpointName>) -> io::Result<()> {
+    let text = name.as_ref().map(|name| Quoted(name.as_bytes()));
+    show_value(rt, AttributeKind::EndpointName, text)
+}
+
+fn show_telephone(
+    rt: &HostRuntime,
+    kind: AttributeKind,
+    telephone: &Option<TelephoneNumber>,
+) -> io::Result<()> {
+    show_value(rt, kind, telephone.as_ref().map(|number| Quoted(&number.0)))
 }
 
 fn show_values(rt: &HostRuntime, a: &Attributes) -> io::Result<()> {
-    if let Some(name) = a.endpoint_name {
-        show_value(rt, 3, format_args!("\"{}\"", Text(name.as_bytes())))?;
-    }
-    show_telephone(rt, 4, &a.calling_party_number)?;
-    show_telephone(rt, 5, &a.called_party_number)?;
-    if let Some(cause) = a.termination_cause {
-        let code = cause.cause_code;
-        let document = cause.source_document;
-        show_value(
-            rt,
-            11,
-            format_args!("Source_Document={document}, Cause_Code={code}"),
-        )?;
-    }
-    if let Some(call) = a.related_call {
-        show_value(rt, 13, Call(&call))?;
-    }
-    show_telephone(rt, 16, &a.charge_number)?;
-    show_telephone(rt, 25, &a.routing_number)?;
-    show_number(rt, 26, &a.udp_port)?;
-    show_number(rt, 30, &a.service_flow)?;
-    if let Some(direction) = a.direction {
-        show_value(
-            rt,
-            37,
-            format_args!("{direction} ({})", direction_name(direction)),
-        )?;
-    }
-    if let Some(adjustment) = a.time_adjustment {
-        show_value(
-            rt,
-            38,
-            format_args!("{} milliseconds", adjustment.milliseconds()),
-        )?;
-    }
-    if let Some(direction) = a.flow_direction {
-        show_value(
-            rt,
-            50,
-            format_args!("{direction} ({})", flow_name(direction)),
-        )?;
-    }
-    Ok(())
+    show_name(rt, &a.endpoint_name)?;
+    show_telephone(
+        rt,
+        AttributeKind::CallingPartyNumber,
+        &a.calling_party_number,
+    )?;
+    show_telephone(rt, AttributeKind::CalledPartyNumber, &a.called_party_number)?;
+    show_value(
+        rt,
+        AttributeKind::TerminationCause,
+        a.termination_cause.map(Cause),
+    )?;
+    show_value(rt, AttributeKind::RelatedCall, a.related_call.map(Call))?;
+    show_telephone(rt, AttributeKind::ChargeNumber, &a.charge_number)?;
+    show_telephone(rt, AttributeKind::RoutingNumber, &a.routing_number)?;
+    show_value(rt, AttributeKind::UdpPort, a.udp_port)?;
+    show_value(rt, AttributeKind::ServiceFlow, a.service_flow)?;
+    show_value(rt, AttributeKind::Direction, a.direction.map(Direction))?;
+    show_value(
+        rt,
+        AttributeKind::TimeAdjustment,
+        a.time_adjustment.map(Adjustment),
+    )?;
+    show_value(rt, AttributeKind::FlowDirection, a.flow_direction.map(Flow))
 }

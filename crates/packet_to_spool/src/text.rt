@@ -1,19 +1,6 @@
 //! Bytes, as they are printed.
 use std::fmt;
 
-/// Two hexadecimal digits for each byte.
-#[derive(Drop)]
-pub struct Hex<'a>(pub &'a [u8]);
-
-impl fmt::Display for Hex<'_> {
-    fn fmt<W: fmt::Write>(&self, f: &mut fmt::Formatter<W>) -> fmt::Result {
-        for b in self.0 {
-            write!(f, "{b:02x}")?;
-        }
-        Ok(())
-    }
-}
-
 /// Text, with a dot for each byte that cannot be printed.
 #[derive(Drop)]
 pub struct Text<'a>(pub &'a [u8]);
@@ -21,12 +8,21 @@ pub struct Text<'a>(pub &'a [u8]);
 impl fmt::Display for Text<'_> {
     fn fmt<W: fmt::Write>(&self, f: &mut fmt::Formatter<W>) -> fmt::Result {
         for b in self.0 {
-            let c = match *b {
+            f.write_char(match *b {
                 b' '..=b'~' => char::from(*b),
                 _ => '.',
-            };
-            write!(f, "{c}")?;
+            })?;
         }
         Ok(())
+    }
+}
+
+/// Text in quotes.
+#[derive(Drop)]
+pub struct Quoted<'a>(pub &'a [u8]);
+
+impl fmt::Display for Quoted<'_> {
+    fn fmt<W: fmt::Write>(&self, f: &mut fmt::Formatter<W>) -> fmt::Result {
+        write!(f, "\"{}\"", Text(self.0))
     }
 }

@@ -1,32 +1,33 @@
-//! The fields of an event in words.
-use crate::text::Text;
+//! The values of an event in words.
+use crate::text::{Quoted, Text};
 use fields::calendar::EventTime;
+use message::attributes::{TerminationCause, TimeAdjustment};
 use message::header::Bcid;
 use std::fmt;
 
 /// The call that a BCID names.
-#[derive(Drop)]
-pub struct Call<'a>(pub &'a Bcid);
+#[derive(Clone, Copy)]
+pub struct Call(pub Bcid);
 
-impl fmt::Display for Call<'_> {
+impl fmt::Display for Call {
     fn fmt<W: fmt::Write>(&self, f: &mut fmt::Formatter<W>) -> fmt::Result {
-        let bcid = self.0;
+        let bcid = &self.0;
         let timestamp = bcid.timestamp;
-        let element = Text(&bcid.element_id.0);
+        let element = Quoted(&bcid.element_id.0);
         let zone = Text(&bcid.time_zone.0);
         let counter = bcid.event_counter.0;
         write!(
             f,
-            "timestamp 0x{timestamp:08x}, element \"{element}\", zone {zone}, event counter {counter}"
+            "timestamp 0x{timestamp:08x}, element {element}, zone {zone}, event counter {counter}"
         )
     }
 }
 
 /// A date and a time of day.
-#[derive(Drop)]
-pub struct Moment<'a>(pub &'a EventTime);
+#[derive(Clone, Copy)]
+pub struct Moment(pub EventTime);
 
-impl fmt::Display for Moment<'_> {
+impl fmt::Display for Moment {
     fn fmt<W: fmt::Write>(&self, f: &mut fmt::Formatter<W>) -> fmt::Result {
         let t = &self.0.0;
         write!(
@@ -43,5 +44,59 @@ impl fmt::Display for Moment<'_> {
             Text(&t[10..12]),
             Text(&t[12..18])
         )
+    }
+}
+
+/// Why a call ended.
+#[derive(Clone, Copy)]
+pub struct Cause(pub TerminationCause);
+
+impl fmt::Display for Cause {
+    fn fmt<W: fmt::Write>(&self, f: &mut fmt::Formatter<W>) -> fmt::Result {
+        let document = self.0.source_document;
+        let code = self.0.cause_code;
+        write!(f, "Source_Document={document}, Cause_Code={code}")
+    }
+}
+
+/// By how much a clock was set.
+#[derive(Clone, Copy)]
+pub struct Adjustment(pub TimeAdjustment);
+
+impl fmt::Display for Adjustment {
+    fn fmt<W: fmt::Write>(&self, f: &mut fmt::Formatter<W>) -> fmt::Result {
+        write!(f, "{} milliseconds", self.0.milliseconds())
+    }
+}
+
+/// A Direction_indicator.
+#[derive(Clone, Copy)]
+pub struct Direction(pub u16);
+
+impl fmt::Display for Direction {
+    fn fmt<W: fmt::Write>(&self, f: &mut fmt::Formatter<W>) -> fmt::Result {
+        let direction = self.0;
+        let name = match direction {
+            1 => "originating",
+            2 => "terminating",
+            _ => "undefined",
+        };
+        write!(f, "{direction} ({name})")
+    }
+}
+
+/// A Flow_Direction.
+#[derive(Clone, Copy)]
+pub struct Flow(pub u16);
+
+impl fmt::Display for Flow {
+    fn fmt<W: fmt::Write>(&self, f: &mut fmt::Formatter<W>) -> fmt::Result {
+        let direction = self.0;
+        let name = match direction {
+            1 => "upstream",
+            2 => "downstream",
+            _ => "undefined",
+        };
+        write!(f, "{direction} ({name})")
     }
 }

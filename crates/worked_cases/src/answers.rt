@@ -7,29 +7,11 @@ use reading::packet::PacketFeed;
 use reading::spool::SpoolFeed;
 use std::io;
 
-fn kind_name(kind: u16) -> &'static str {
-    match kind {
-        1 => "Signaling_Start",
-        2 => "Signaling_Stop",
-        7 => "QoS_Reserve",
-        8 => "QoS_Release",
-        15 => "Call_Answer",
-        16 => "Call_Disconnect",
-        17 => "Time_Change",
-        19 => "QoS_Commit",
-        20 => "Media_Alive",
-        _ => "unknown",
-    }
-}
-
 fn show_feed<F: Feed>(rt: &HostRuntime, feed: &mut F) -> io::Result<()> {
+    let mut event = Event::media_alive();
     loop {
-        let mut event = Event::media_alive();
         match feed.next(&mut event) {
-            Ok(Some(at)) => {
-                let name = kind_name(event.header.kind);
-                println!(rt; "    {name} at {at}")?;
-            }
+            Ok(Some(at)) => println!(rt; "    {} at {at}", event.kind())?,
             Ok(None) => return println!(rt; "    end"),
             Err(fault) => return println!(rt; "    {}", Refused(fault)),
         }

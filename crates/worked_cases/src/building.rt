@@ -1,31 +1,40 @@
 //! Packets and spools, made piece by piece.
 ghost use Rattle.std.specs.Prelude.{◌≤◌, length};
 
+use forms::encoding::Encoding;
+use message::attribute_kind::AttributeKind;
 use message::event::Event;
+use message::event_kind::EventKind;
 use message::header::Header;
 use std::alloc::{AllocError, Global};
 
 /// The header of a Media_Alive, for another kind of event with other attributes.
-pub fn header_of(kind: u16, attribute_count: u16) -> Header {
-    let mut header = Event::media_alive().header;
-    header.kind = kind;
-    header.attribute_count = attribute_count;
-    header
+pub fn header_of(kind: EventKind, attribute_count: u16) -> Header {
+    Header {
+        kind: kind.number(),
+        attribute_count,
+        ..Event::media_alive().header
+    }
 }
 
-/// Adds a vendor attribute of CableLabs.
-pub fn push_attribute(out: &mut Vec<u8>, number: u8, value: &[u8]) -> Result<(), AllocError>
+/// Adds an item of a spool, or a vendor attribute of CableLabs.
+pub fn push(
+    out: &mut Vec<u8>,
+    encoding: Encoding,
+    kind: AttributeKind,
+    value: &[u8],
+) -> Result<(), AllocError>
     requires { length value.now ≤ 76 }
 {
-    let width = value.len() as u8;
-    out.extend_from_slice(&[26, 8 + width, 0, 0, 17, 139, number, 2 + width])?;
+    let number = kind.number();
+    match encoding {
+        Encoding::Spool => out.push(number)?,
+        Encoding::Packet => {
+            let width = value.len() as u8;
+            out.extend_from_slice(&[26, 8 + width, 0, 0, 17, 139, number, 2 + width])?
+        }
+    }
     out.extend_from_slice(value)
-}
-
-/// Adds an item of a spool.
-pub fn push_item(out: &mut Vec<u8>, number: u8, body: &[u8]) -> Result<(), AllocError> {
-    out.extend_from_slice(&[number])?;
-    out.extend_from_slice(body)
 }
 
 /// An Accounting-Request around some attributes, with the identifier 7 and an authenticator of zeros.

@@ -1,5 +1,4 @@
 //! The test suite of RFC 1321, A.5.
-use crate::text::Hex;
 use digest::digest;
 use std::io;
 
@@ -16,7 +15,7 @@ const SUITE: [&str; 7] = [
 fn show_digest(rt: &HostRuntime, message: &str) -> io::Result<()> {
     let mut code = [0; 16];
     digest(message.as_bytes(), &mut code);
-    println!(rt; "MD5 (\"{message}\") = {}", Hex(&code))
+    println!(rt; "MD5 (\"{message}\") = {}", hex::encode(rt.alloc(), code)?)
 }
 
 pub fn show_digests(rt: &HostRuntime) -> io::Result<()> {

@@ -7,7 +7,6 @@ mod digests;
 mod lines;
 mod names;
 mod outputs;
-mod text;
 mod told;
 
 use crate::answers::show_packet;
@@ -24,7 +23,7 @@ fn show_smallest(rt: &HostRuntime) -> io::Result<()> {
     println!(rt; "A packet of Length 20")?;
     show_packet(rt, &packet)?;
     println!(rt; "The same, of which 19 bytes are given")?;
-    show_packet(rt, packet.get(0..19).unwrap_or(&[]))
+    show_packet(rt, packet.get(..19).unwrap_or(&[]))
 }
 
 // Bytes after Length are ignored, but they are counted.

@@ -1,4 +1,6 @@
 //! A Media_Alive, written into buffers that are too small by a byte, and just large enough.
+ghost use Rattle.std.specs.Prelude.{◌≤◌};
+
 use crate::told::Refused;
 use message::event::Event;
 use refusal::Fault;
@@ -11,21 +13,12 @@ const FILLING: u8 = 0xee;
 
 const SECRET: [u8; 16] = *b"sixteen byte key";
 
-fn is_untouched(bytes: &[u8]) -> bool {
-    for b in bytes {
-        if *b != FILLING {
-            return false;
-        }
-    }
-    true
-}
-
 fn show_answer(rt: &HostRuntime, answer: Result<usize, Fault>, buffer: &[u8]) -> io::Result<()> {
     let size = buffer.len();
     match answer {
         Ok(length) => println!(rt; "    into {size} bytes: {length} are written"),
         Err(fault) => {
-            let state = if is_untouched(buffer) {
+            let state = if buffer.iter().all(|b| *b == FILLING) {
                 "untouched"
             } else {
                 "TOUCHED"
@@ -38,24 +31,31 @@ fn show_answer(rt: &HostRuntime, answer: Result<usize, Fault>, buffer: &[u8]) ->
     }
 }
 
+// Writes into N bytes.
+fn show_written<const N: usize, F: Fn(&mut [u8]) -> Result<usize, Fault>>(
+    rt: &HostRuntime,
+    write: &F,
+) -> io::Result<()>
+    requires small { N ≤ 142 }
+    requires any { F.IsAlwaysCallable write.now }
+{
+    let mut buffer = [FILLING; N];
+    let answer = write(&mut buffer);
+    show_answer(rt, answer, &buffer)
+}
+
 fn show_spools(rt: &HostRuntime, event: &Event) -> io::Result<()> {
     println!(rt; "A Media_Alive written as a spool")?;
-    let mut small = [FILLING; 76];
-    let answer = write_spool(event, &mut small);
-    show_answer(rt, answer, &small)?;
-    let mut enough = [FILLING; 77];
-    let answer = write_spool(event, &mut enough);
-    show_answer(rt, answer, &enough)
+    let write = |out: &mut [u8]| write_spool(event, out);
+    show_written::<76, _>(rt, &write)?;
+    show_written::<77, _>(rt, &write)
 }
 
 fn show_packets(rt: &HostRuntime, event: &Event) -> io::Result<()> {
     println!(rt; "A Media_Alive written as a packet")?;
-    let mut small = [FILLING; 141];
-    let answer = write_packet(event, 7, &[10, 0, 0, 1], &SECRET, &mut small);
-    show_answer(rt, answer, &small)?;
-    let mut enough = [FILLING; 142];
-    let answer = write_packet(event, 7, &[10, 0, 0, 1], &SECRET, &mut enough);
-    show_answer(rt, answer, &enough)
+    let write = |out: &mut [u8]| write_packet(event, 7, &[10, 0, 0, 1], &SECRET, out);
+    show_written::<141, _>(rt, &write)?;
+    show_written::<142, _>(rt, &write)
 }
 
 pub fn show_outputs(rt: &HostRuntime) -> io::Result<()> {
