@@ -8,35 +8,29 @@ ghost use Rattle.laws.specs.Worked.{Worked};
 /// Two events with the same spool form are the same.
 pub fn form_tells()
     ensures { FormTells }
-{
-}
+{}
 
 /// The order of events tells any two apart.
 pub fn order_tells()
     ensures { OrderTells }
-{
-}
+{}
 
 /// The order of a packet's counted attributes does not matter to the event.
 pub fn any_order()
     ensures { AnyOrder }
-{
-}
+{}
 
 /// The check of an event looks at nothing but the event.
 pub fn check_alone()
     ensures { CheckAlone }
-{
-}
+{}
 
 /// An event takes 77 to 252 bytes in a spool.
 pub fn lengths()
     ensures { (e : Event) → Lengths e }
-{
-}
+{}
 
 /// The worked cases.
 pub fn worked()
     ensures { Worked }
-{
-}
+{}
