@@ -1,10 +1,7 @@
 //! What stands before the attributes of a packet.
 use std::io;
 
-pub fn show_front(rt: &HostRuntime, packet: &[u8]) -> io::Result<()> {
-    let Some((front, _)) = packet.split_first_chunk::<20>() else {
-        return Ok(());
-    };
+pub fn show_front(rt: &HostRuntime, front: &[u8; 20]) -> io::Result<()> {
     let [code, identifier, high, low, ..] = *front;
     let length = u16::from_be_bytes([high, low]);
     let authenticator = hex::encode(rt.alloc(), &front[4..])?;

@@ -61,9 +61,10 @@ fn write_events(rt: &HostRuntime, met: &[Met]) -> io::Result<()> {
 }
 
 fn follow(rt: &HostRuntime, packet: TakenUp) -> io::Result<()> {
+    let front = packet.front();
     let held = packet.bytes();
     let reading = read_all(rt.alloc(), &mut PacketFeed::read_out(packet))?;
-    show_front(rt, held)?;
+    show_front(rt, front)?;
     show_attributes(rt, held)?;
     show_reading(rt, &reading)?;
     write_events(rt, &reading.met)

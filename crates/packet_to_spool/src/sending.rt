@@ -22,9 +22,9 @@ fn receive(rt: &HostRuntime, sent: &Met, bytes: &[u8]) -> io::Result<()> {
         Ok(packet) => packet,
         Err(fault) => return println!(rt; "It is {}", Refused(fault)),
     };
-    let held = packet.bytes();
+    let front = packet.front();
     let again = read_all(rt.alloc(), &mut PacketFeed::read_out(packet))?;
-    show_front(rt, held)?;
+    show_front(rt, front)?;
     println!(rt; "It is read back.")?;
     compare_all(rt, slice::from_ref(sent), &again)
 }

@@ -31,7 +31,6 @@ fn show_attribute(rt: &HostRuntime, attribute: Attribute) -> io::Result<()> {
 }
 
 /// Ends at the end of the packet, or at the first attribute that is broken.
-#[tactic(auto, using(crate::proofs::Walked::shorter))]
 pub fn show_attributes(rt: &HostRuntime, packet: &[u8]) -> io::Result<()> {
     println!(rt; "Its attributes:")?;
     let mut walk = Walk::new(packet);

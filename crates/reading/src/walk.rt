@@ -108,6 +108,7 @@ impl<'a> Walk<'a> {
         ensures bytes { self.new.cursor.bytes.now ≡ self.old.cursor.bytes.now }
         ensures read { viewed (drop (next_place result) self.old.cursor.bytes.now) result ≡ attribute_at self.old.cursor.place (left self.old.cursor) }
         ensures place { self.new.cursor.place ≡ gone self.old.cursor.place result }
+        ensures onward { Onward self.old.cursor.place (length self.old.cursor.bytes.now) result }
     {
         let found = attribute_at(self.cursor);
         if let Ok(Some(attribute)) = found {

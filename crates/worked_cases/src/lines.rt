@@ -15,16 +15,26 @@ enum Delivery {
 #[derive(Clone, Copy)]
 enum LineError {
     Unreadable,
-    OutOfMemory,
+    NoMemory(AllocError),
 }
 
 impl From<FromHexError> for LineError {
-    fn from(e: FromHexError) -> LineError {
-        match e {
-            FromHexError::OutOfMemory => LineError::OutOfMemory,
-            _ => LineError::Unreadable,
-        }
+    fn from(_: FromHexError) -> LineError {
+        LineError::Unreadable
     }
+}
+
+impl From<AllocError> for LineError {
+    fn from(e: AllocError) -> LineError {
+        LineError::NoMemory(e)
+    }
+}
+
+fn decode(heap: Global, digits: &str) -> Result<Vec<u8>, LineError> {
+    let mut bytes = Vec::new(heap);
+    bytes.resize(digits.len() / 2, 0)?;
+    hex::decode_to_slice(digits, &mut bytes)?;
+    Ok(bytes)
 }
 
 // None of an empty line.
@@ -33,10 +43,10 @@ fn read(heap: Global, text: &str) -> Result<Option<Delivery>, LineError> {
         return Ok(None);
     }
     if let Some(digits) = text.strip_prefix("packet") {
-        return Ok(Some(Delivery::Packet(hex::decode(heap, digits.trim())?)));
+        return Ok(Some(Delivery::Packet(decode(heap, digits.trim())?)));
     }
     if let Some(digits) = text.strip_prefix("spool") {
-        return Ok(Some(Delivery::Spool(hex::decode(heap, digits.trim())?)));
+        return Ok(Some(Delivery::Spool(decode(heap, digits.trim())?)));
     }
     Err(LineError::Unreadable)
 }
@@ -63,7 +73,7 @@ fn show_line(rt: &HostRuntime, line: &str) -> io::Result<()> {
         Err(LineError::Unreadable) => println!(rt;
             "a line that is neither packet nor spool: {comment}"
         ),
-        Err(LineError::OutOfMemory) => Err(AllocError.into()),
+        Err(LineError::NoMemory(e)) => Err(e.into()),
     }
 }
 
