@@ -15,6 +15,7 @@ fn word_at(block: &[u8; 64], k: usize) -> u32
     u32::from_le_bytes(part(block, 4 * k))
 }
 
+// By number, and no chain over the tables: the number of an operation picks its word of the block too.
 /// A round: the sixteen operations from number `first` on. Each takes `f` of three words of the state, and adds the word of
 /// the block that `index` gives for the number of the operation.
 fn round<F: Fn(u32, u32, u32) -> u32, P: Fn(usize) -> usize>(

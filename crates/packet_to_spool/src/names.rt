@@ -15,7 +15,7 @@ impl fmt::Display for AttributeName {
     }
 }
 
-/// The attributes of a RADIUS packet.
+/// The attributes of a RADIUS packet. No enum: any number may come, and only these have a name here.
 pub fn radius_name(kind: u8) -> &'static str {
     match kind {
         4 => "NAS-IP-Address",

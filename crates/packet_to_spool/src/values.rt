@@ -69,7 +69,7 @@ impl fmt::Display for Adjustment {
     }
 }
 
-/// A Direction_indicator.
+/// A Direction_indicator, of any value.
 #[derive(Clone, Copy)]
 pub struct Direction(pub u16);
 
@@ -85,7 +85,7 @@ impl fmt::Display for Direction {
     }
 }
 
-/// A Flow_Direction.
+/// A Flow_Direction, of any value.
 #[derive(Clone, Copy)]
 pub struct Flow(pub u16);
 

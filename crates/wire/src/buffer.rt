@@ -6,6 +6,7 @@ use std::marker::Model;
 
 /// At most N bytes, one after another. Contracts see their list; the memory behind them is kept zero, so that two of them
 /// are equal exactly when their bytes are.
+// The one place with a length beside memory: no heap is allowed here, and the kit's `ArrayVec` is no `Copy`, as an event is.
 #[derive(Clone, Copy, PartialEq, Eq, Debug)]
 pub struct Buffer<const N: usize> {
     bytes: [u8; N],

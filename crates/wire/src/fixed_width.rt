@@ -3,6 +3,7 @@ ghost use Rattle.std.specs.Prelude.{◌≡◌, ℕ, ◌+◌, ◌≤◌, List, le
 ghost use Rattle.wire.specs.Octets.{two_at, four_at, two, four};
 
 /// A value that stands in N bytes.
+// A slice and a place, and no cursor that reads on: a format's table gives the offset of each field, and a reader finds it here.
 pub trait FixedWidth<const N: usize> {
     /// The bytes of a value.
     ghost form: { Self → List ℕ };

@@ -17,7 +17,8 @@ pub fn header_of(kind: EventKind, attribute_count: u16) -> Header {
     }
 }
 
-/// Adds an item of a spool, or a vendor attribute of CableLabs.
+/// Adds an item of a spool, or a vendor attribute of CableLabs, with any value: the library's writer makes none that is
+/// faulty.
 pub fn push(
     out: &mut Vec<u8>,
     encoding: Encoding,
