@@ -1,6 +1,5 @@
 -- The rules that an event meets, one by one, and the check of them.
 use Rattle.std.proofs.Common.{◌≡◌, ℕ, Bool, true, false, eqb, length, Ok, Err, sym, refl, ap, ◌∙◌, arith}
-use mathlib.Core.HLevel.{is_prop→PathP}
 use mathlib.Core.Bool.{Bool-set}
 use Rattle.std.proofs.lemmas.Bool.{eq-eqb, eqb-true, and_parts, and_from, and_right, cond-true}
 use Rattle.refusal.specs.declared.Fault.TheVariants.{MandatoryMissing}
@@ -56,14 +55,6 @@ element_told e =
     let p2 = and_parts _ (spaced h.element_id.0) p3.0 in
     let p1 = and_parts _ (zone h.bcid.time_zone.0) p2.0 in
     (and_parts (element_listed h.element_type) (spaced h.bcid.element_id.0) p1.0).0
-
--- events with equal fields are equal
-pub event_same : (e f : Event) → e.header ≡ f.header → e.attributes ≡ f.attributes → e ≡ f
-event_same e f p q = λ i. record {
-  header = p i;
-  attributes = q i;
-  sound = is_prop→PathP (λ j. sound (p j) (q j) ≡ true) (λ j. Bool-set (sound (p j) (q j)) true) e.sound f.sound i;
-}
 
 pub tested_true : {A : Type 0} (b : Bool) (f : b ≡ true → A) (x : A) (h : b ≡ true) → tested b f x ≡ f h
 tested_true true f x h = ap f (Bool-set true true _ h)
