@@ -1,12 +1,8 @@
 -- Digits and spaces, in the words of std's iterators.
-use Rattle.std.proofs.Common.{◌≡◌, ℕ, ◌+◌, ◌<◌, ◌≤◌, Bool, true, false, ◌&&◌, not, cond, ◌==◌, nat_lt, suc, ◌∙◌, List, [], ◌∷◌, length, drop, Some, None, refl, ap, arith}
+use Rattle.std.proofs.Common.{◌≡◌, ℕ, ◌+◌, ◌<◌, ◌≤◌, Bool, true, false, not, cond, ◌==◌, nat_lt, suc, ◌∙◌, List, [], ◌∷◌, length, drop, Some, None, refl, ap, arith}
 use Rattle.std.proofs.lemmas.Bool.Decides.{nat_tests}
-use Rattle.std.specs.List.{list_all, position, position_or_len}
-use Rattle.fields.specs.Texts.{digit, digits, spaced}
-
-pub all_digits : (bs : List ℕ) → list_all digit bs ≡ digits bs
-all_digits [] = refl
-all_digits (b ∷ bs) = ap (λ t. digit b && t) (all_digits bs)
+use Rattle.std.specs.List.{position, position_or_len}
+use Rattle.fields.specs.Texts.{digits, spaced}
 
 abbrev pub no_space : ℕ → Bool
 no_space b = not (b == 32)

@@ -1,5 +1,6 @@
 -- Attributes in any order, and events by their forms.
 use Rattle.std.proofs.Common.{◌≡◌, ℕ, ◌+◌, Bool, true, false, cond, not, List, [], ◌∷◌, ◌++◌, length, is_some, Some, None, Ok, Err, Option, Result, Ordering, Less, Equal, Greater, sym, refl, ap, ◌∙◌, ⊎_elim, arith}
+use Rattle.std.specs.List.{list_all}
 use Rattle.std.proofs.lemmas.Bool.{eq-eqb, ne_eqb, and_parts, and_from, cond-true, cond-false, cases_eq}
 use Rattle.std.specs.Cmp.Lexicographic.{slice_cmp, nat_list_cmp_total}
 use Rattle.std.specs.Ordering.{ordering_then, ordering_reverse, nat_cmp}
@@ -8,7 +9,7 @@ use Rattle.wire.specs.Octets.{two_at, four_at}
 use Rattle.refusal.specs.declared.Fault.{Fault}
 use Rattle.refusal.specs.declared.Fault.TheVariants.{UnknownKind, HeaderForm, MandatoryMissing}
 use Rattle.message.specs.declared.event.Event.{Event}
-use Rattle.message.specs.Tables.{beside, all, opt}
+use Rattle.message.specs.Tables.{beside, opt}
 use Rattle.message.specs.Headers.{bcid_form, bcid_at}
 use Rattle.message.specs.Values.{Attribute, fits, name_of, telephone_of, cause_of, adjustment_of, attributes_of, others}
 use Rattle.message.specs.Rules.{listed, well_formed, sound}
@@ -60,7 +61,7 @@ absent : (o : Option (List ℕ)) → not (is_some o) ≡ true → o ≡ None
 absent None h = refl
 absent (Some v) h = let z : ◌≡◌ {A = ℕ} 0 1 = cc in let y : ⊥ = omega arith in absurd y
 
-all_fit : (m : List Attribute) → apart m ≡ true → ((n : ℕ) (v : List ℕ) → beside n m ≡ Some v → fits (n, v) ≡ true) → all fits m ≡ true
+all_fit : (m : List Attribute) → apart m ≡ true → ((n : ℕ) (v : List ℕ) → beside n m ≡ Some v → fits (n, v) ≡ true) → list_all fits m ≡ true
 all_fit [] a h = refl
 all_fit ((k, u) ∷ m) a h =
     let p = and_parts (not (is_some (beside k m))) (apart m) a in

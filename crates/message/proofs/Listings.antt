@@ -1,15 +1,16 @@
 -- The attributes that are there, by the table of widths.
 use Rattle.std.proofs.Common.{◌≡◌, ℕ, ◌<◌, ◌≤◌, Bool, true, false, ◌&&◌, eqb, ltb, List, [], ◌∷◌, Some, None, Option, sym, refl, ◌∙◌, subst, ⊎_elim, arith}
+use Rattle.std.specs.List.{list_all}
 use Rattle.std.proofs.lemmas.Bool.{eq-eqb, ne_eqb, ltb-true, lt-ltb, and_parts, and_from, cond-true, cond-false, cases_eq}
 use Rattle.message.specs.declared.attributes.Attributes.{Attributes}
-use Rattle.message.specs.Tables.{beside, all}
+use Rattle.message.specs.Tables.{beside}
 use Rattle.message.specs.Values.{Attribute, widths, value, put_before, present, others, last}
 
 abbrev pub Table : Type 0
 Table = List (ℕ × (ℕ × ℕ))
 
 abbrev pub below : ℕ → Table → Bool
-below n t = all (λ x. ltb x.0 n) t
+below n t = list_all (λ x. ltb x.0 n) t
 
 abbrev pub falling : Table → Bool
 falling [] = true

@@ -1,5 +1,6 @@
 -- Attributes as values and as bytes: what is written is read again, and what is read is written again.
 use Rattle.std.proofs.Common.{◌≡◌, ℕ, zero, suc, ◌≤◌, Bool, true, false, cond, ◌&&◌, eqb, ltb, leb, List, [], ◌∷◌, ◌++◌, length, take, replicate, is_some, Some, None, Option, sym, refl, ap, ◌∙◌, subst, ⊎_elim, arith, length-append}
+use Rattle.std.specs.List.{list_all}
 use Rattle.std.proofs.lemmas.List.{take_all, take_at, drop_at}
 use Rattle.std.proofs.lemmas.Bool.{eq-eqb, ne_eqb, eqb-true, leb-true, le-leb, ltb-true, lt-ltb, and_parts, and_from, cond-true, cond-false, cases_eq}
 use Rattle.wire.specs.Octets.{Octets, two, four, two_at, four_at, part_of}
@@ -9,7 +10,7 @@ use Rattle.message.specs.declared.header.Bcid.{Bcid}
 use Rattle.message.specs.declared.attributes.EndpointName.{EndpointName}
 use Rattle.message.specs.declared.attributes.TerminationCause.{TerminationCause}
 use Rattle.message.specs.declared.attributes.Attributes.{Attributes}
-use Rattle.message.specs.Tables.{beside, all, opt, held}
+use Rattle.message.specs.Tables.{beside, opt, held}
 use Rattle.message.specs.Headers.{bcid_form, bcid_at, bcid_typed}
 use Rattle.message.specs.Values.{Attribute, widths, fits, zeros, name_form, name_of, name_typed, telephone_of, telephone_typed, cause_form, cause_of, cause_typed, adjustment_of, adjustment_typed, value, attributes_of, attributes_typed, put_before, present, others, kept}
 use Rattle.message.proofs.Wires.{bcid_parts, bcid_long, bcid_at_typed, bcid_formed, bcid_back}
@@ -28,7 +29,7 @@ held_of : {A : Type 0} (dec : List ℕ → A) (p : A → Bool) (o : Option (List
 held_of dec p None h = refl
 held_of dec p (Some v) h = h v refl
 
-before_fits : {A : Type 0} (n : ℕ) (enc : A → List ℕ) (p : A → Bool) (o : Option A) (l : List Attribute) → held p o ≡ true → ((x : A) → p x ≡ true → fits (n, enc x) ≡ true) → all fits l ≡ true → all fits (put_before n (opt enc o) l) ≡ true
+before_fits : {A : Type 0} (n : ℕ) (enc : A → List ℕ) (p : A → Bool) (o : Option A) (l : List Attribute) → held p o ≡ true → ((x : A) → p x ≡ true → fits (n, enc x) ≡ true) → list_all fits l ≡ true → list_all fits (put_before n (opt enc o) l) ≡ true
 before_fits n enc p None l t h k = k
 before_fits n enc p (Some x) l t h k = and_from _ _ (h x t) k
 
@@ -50,10 +51,10 @@ exactly a k e = let p = between a a k e in let x = p.0 in let y = p.1 in omega a
 wide : (a k : ℕ) → k ≡ a → leb a k && leb k a ≡ true
 wide a k e = and_from _ _ (le-leb a k (omega arith)) (le-leb k a (omega arith))
 
-pub found_fits : (l : List Attribute) (m : ℕ) (v : List ℕ) → all fits l ≡ true → beside m l ≡ Some v → fits (m, v) ≡ true
+pub found_fits : (l : List Attribute) (m : ℕ) (v : List ℕ) → list_all fits l ≡ true → beside m l ≡ Some v → fits (m, v) ≡ true
 found_fits [] m v f e = let z : ◌≡◌ {A = ℕ} 0 1 = cc in let y : ⊥ = omega arith in absurd y
 found_fits ((n, u) ∷ l) m v f e =
-    let q = and_parts (fits (n, u)) (all fits l) f in
+    let q = and_parts (fits (n, u)) (list_all fits l) f in
     ⊎_elim (λ i. let k : Some u ≡ Some v = sym (cond-true _ _ _ (eq-eqb m n i)) ∙ e in let j : u ≡ v = cc in (λ t. fits (i t, sym j t)) ∙ q.0)
     (λ d. found_fits l m v q.1 (sym (cond-false _ _ _ (ne_eqb m n d)) ∙ e)) (cases_eq m n)
 
@@ -123,7 +124,7 @@ module _ (v : List ℕ) (o : Octets v) where
   bcid_formed_24 n = bcid_formed v 0 (omega arith) o ∙ take_all 24 v (omega arith)
 
 -- what is read has the right widths
-pub attributes_of_typed : (l : List Attribute) → all fits l ≡ true → attributes_typed (attributes_of l) ≡ true
+pub attributes_of_typed : (l : List Attribute) → list_all fits l ≡ true → attributes_typed (attributes_of l) ≡ true
 unfolding attributes_typed
 attributes_of_typed l f =
     and_from _ _ (and_from _ _ (and_from _ _ (and_from _ _ (and_from _ _ (and_from _ _ (and_from _ _ (and_from _ _ (and_from _ _ (and_from _ _ (and_from _ _
@@ -172,7 +173,7 @@ attributes_parts a e =
     record { t3 = q1.0; t4 = q1.1; t5 = q2.1; t11 = q3.1; t13 = q4.1; t16 = q5.1; t25 = q6.1; t26 = q7.1; t30 = q8.1; t37 = q9.1; t38 = q10.1; t50 = q11.1 }
 
 -- what is there has the widths of the table
-pub others_fit : (a : Attributes) → attributes_typed a ≡ true → all fits (others a) ≡ true
+pub others_fit : (a : Attributes) → attributes_typed a ≡ true → list_all fits (others a) ≡ true
 unfolding others
 others_fit a e =
     let t = attributes_parts a e in
@@ -211,7 +212,7 @@ attributes_again a e =
     }
 
 -- attributes, read and written again
-pub others_of : (l : List Attribute) → all fits l ≡ true → ((n : ℕ) (v : List ℕ) → beside n l ≡ Some v → Octets v) → others (attributes_of l) ≡ present widths (λ n. beside n l)
+pub others_of : (l : List Attribute) → list_all fits l ≡ true → ((n : ℕ) (v : List ℕ) → beside n l ≡ Some v → Octets v) → others (attributes_of l) ≡ present widths (λ n. beside n l)
 unfolding others
 others_of l f o =
     λ i.

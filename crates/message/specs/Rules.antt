@@ -1,10 +1,11 @@
 -- The rules that every event meets.
 use Rattle.std.specs.Prelude.{ℕ, Bool, ◌&&◌, ◌||◌, List, [], ◌∷◌, length, is_some, Some, None, Option, ◌==◌}
+use Rattle.std.specs.List.{list_all}
 use Rattle.fields.specs.Texts.{spaced, zone}
 use Rattle.fields.specs.Calendar.{timed}
 use Rattle.message.specs.declared.header.Header.{Header}
 use Rattle.message.specs.declared.attributes.Attributes.{Attributes}
-use Rattle.message.specs.Tables.{beside, all}
+use Rattle.message.specs.Tables.{beside}
 use Rattle.message.specs.Headers.{header_typed}
 use Rattle.message.specs.Values.{value, others, attributes_typed}
 
@@ -22,7 +23,7 @@ or_none None = []
 or_none (Some l) = l
 
 abbrev pub complete : ℕ → Attributes → Bool
-complete k a = all (λ n. is_some (value n a)) (or_none (beside k profile))
+complete k a = list_all (λ n. is_some (value n a)) (or_none (beside k profile))
 
 -- the header's form
 unfoldable pub well_formed : Header → Bool

@@ -1,14 +1,10 @@
 -- Tables by number, and tests over lists and options.
-use Rattle.std.specs.Prelude.{ℕ, Bool, true, cond, ◌&&◌, List, [], ◌∷◌, Some, None, Option, ◌==◌}
+use Rattle.std.specs.Prelude.{ℕ, Bool, true, cond, List, [], ◌∷◌, Some, None, Option, ◌==◌}
 
 -- what stands beside a number in a table
 abbrev pub beside : {A : Type 0} → ℕ → List (ℕ × A) → Option A
 beside n [] = None
 beside n ((k, x) ∷ t) = cond (n == k) (Some x) (beside n t)
-
-abbrev pub all : {A : Type 0} → (A → Bool) → List A → Bool
-all p [] = true
-all p (x ∷ xs) = p x && all p xs
 
 -- what is made of a value that is there
 abbrev pub opt : {A B : Type 0} → (A → B) → Option A → Option B

@@ -1,5 +1,6 @@
 -- The attributes besides the header: their numbers, their widths, and their values in bytes, both ways.
 use Rattle.std.specs.Prelude.{ℕ, ◌+◌, ◌*◌, Bool, false, cond, ◌&&◌, List, [], ◌∷◌, ◌++◌, length, ℤ, Some, None, Option, ◌==◌, nat_eq, nat_le, nat_lt, slice_index}
+use Rattle.std.specs.List.{list_all}
 use Rattle.std.proofs.Common.{to_z}
 use Rattle.std.specs.Int.{w64}
 use Rattle.wire.specs.Octets.{two, four, two_at, four_at, part_of}
@@ -8,7 +9,7 @@ use Rattle.message.specs.declared.attributes.TelephoneNumber.{TelephoneNumber}
 use Rattle.message.specs.declared.attributes.TerminationCause.{TerminationCause}
 use Rattle.message.specs.declared.attributes.TimeAdjustment.{TimeAdjustment}
 use Rattle.message.specs.declared.attributes.Attributes.{Attributes}
-use Rattle.message.specs.Tables.{beside, all, opt, held}
+use Rattle.message.specs.Tables.{beside, opt, held}
 use Rattle.message.specs.Headers.{bcid_form, bcid_at, bcid_typed}
 
 -- each number with its least and its greatest width in bytes, the highest number first
@@ -31,7 +32,7 @@ fits (n, v) = within (length v) (beside n widths)
 
 -- what pads a name in a spool
 abbrev pub zeros : List ℕ → Bool
-zeros bs = all (λ b. nat_eq b 0) bs
+zeros bs = list_all (λ b. nat_eq b 0) bs
 
 abbrev pub name_form : EndpointName → List ℕ
 name_form x = x.0

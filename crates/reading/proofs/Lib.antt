@@ -11,4 +11,3 @@ pub mod Again
 pub mod Lost
 pub mod Skips
 pub mod Bounds
-pub mod Zeros
