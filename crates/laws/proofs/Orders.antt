@@ -9,7 +9,8 @@ use Rattle.wire.specs.Octets.{two_at, four_at}
 use Rattle.refusal.specs.declared.Fault.{Fault}
 use Rattle.refusal.specs.declared.Fault.TheVariants.{UnknownKind, HeaderForm, MandatoryMissing}
 use Rattle.message.specs.declared.event.Event.{Event}
-use Rattle.message.specs.Tables.{beside, opt}
+use Rattle.message.specs.Tables.{beside}
+use Rattle.std.specs.Option.{option_map}
 use Rattle.message.specs.Headers.{bcid_form, bcid_at}
 use Rattle.message.specs.Values.{Attribute, fits, name_of, telephone_of, cause_of, adjustment_of, attributes_of, others}
 use Rattle.message.specs.Rules.{listed, well_formed, sound}
@@ -71,18 +72,18 @@ all_fit ((k, u) ∷ m) a h =
 
 same_attributes : (m l : List Attribute) → ((n : ℕ) → beside n m ≡ beside n l) → attributes_of m ≡ attributes_of l
 same_attributes m l s = λ i. record {
-  endpoint_name = opt name_of (s 3 i);
-  calling_party_number = opt telephone_of (s 4 i);
-  called_party_number = opt telephone_of (s 5 i);
-  termination_cause = opt cause_of (s 11 i);
-  related_call = opt (bcid_at 0) (s 13 i);
-  charge_number = opt telephone_of (s 16 i);
-  routing_number = opt telephone_of (s 25 i);
-  udp_port = opt (four_at 0) (s 26 i);
-  service_flow = opt (four_at 0) (s 30 i);
-  direction = opt (two_at 0) (s 37 i);
-  time_adjustment = opt adjustment_of (s 38 i);
-  flow_direction = opt (two_at 0) (s 50 i);
+  endpoint_name = option_map name_of (s 3 i);
+  calling_party_number = option_map telephone_of (s 4 i);
+  called_party_number = option_map telephone_of (s 5 i);
+  termination_cause = option_map cause_of (s 11 i);
+  related_call = option_map (bcid_at 0) (s 13 i);
+  charge_number = option_map telephone_of (s 16 i);
+  routing_number = option_map telephone_of (s 25 i);
+  udp_port = option_map (four_at 0) (s 26 i);
+  service_flow = option_map (four_at 0) (s 30 i);
+  direction = option_map (two_at 0) (s 37 i);
+  time_adjustment = option_map adjustment_of (s 38 i);
+  flow_direction = option_map (two_at 0) (s 50 i);
 }
 
 pub any_order : AnyOrder

@@ -10,34 +10,35 @@ use Rattle.message.specs.declared.header.Bcid.{Bcid}
 use Rattle.message.specs.declared.attributes.EndpointName.{EndpointName}
 use Rattle.message.specs.declared.attributes.TerminationCause.{TerminationCause}
 use Rattle.message.specs.declared.attributes.Attributes.{Attributes}
-use Rattle.message.specs.Tables.{beside, opt, held}
+use Rattle.message.specs.Tables.{beside, held}
+use Rattle.std.specs.Option.{option_map}
 use Rattle.message.specs.Headers.{bcid_form, bcid_at, bcid_typed}
 use Rattle.message.specs.Values.{Attribute, widths, fits, zeros, name_form, name_of, name_typed, telephone_of, telephone_typed, cause_form, cause_of, cause_typed, adjustment_of, adjustment_typed, value, attributes_of, attributes_typed, put_before, present, others, kept}
 use Rattle.message.proofs.Wires.{bcid_parts, bcid_long, bcid_at_typed, bcid_formed, bcid_back}
 use Rattle.message.proofs.Listings.{Table, widths_fall, beside_present}
 
 -- options
-pub opt_round : {A : Type 0} (enc : A → List ℕ) (dec : List ℕ → A) (o : Option (List ℕ)) → ((v : List ℕ) → o ≡ Some v → enc (dec v) ≡ v) → opt enc (opt dec o) ≡ o
+pub opt_round : {A : Type 0} (enc : A → List ℕ) (dec : List ℕ → A) (o : Option (List ℕ)) → ((v : List ℕ) → o ≡ Some v → enc (dec v) ≡ v) → option_map enc (option_map dec o) ≡ o
 opt_round enc dec None h = refl
 opt_round enc dec (Some v) h = ap Some (h v refl)
 
-opt_back : {A : Type 0} (enc : A → List ℕ) (dec : List ℕ → A) (p : A → Bool) (o : Option A) → held p o ≡ true → ((x : A) → p x ≡ true → dec (enc x) ≡ x) → opt dec (opt enc o) ≡ o
+opt_back : {A : Type 0} (enc : A → List ℕ) (dec : List ℕ → A) (p : A → Bool) (o : Option A) → held p o ≡ true → ((x : A) → p x ≡ true → dec (enc x) ≡ x) → option_map dec (option_map enc o) ≡ o
 opt_back enc dec p None t h = refl
 opt_back enc dec p (Some x) t h = ap Some (h x t)
 
-held_of : {A : Type 0} (dec : List ℕ → A) (p : A → Bool) (o : Option (List ℕ)) → ((v : List ℕ) → o ≡ Some v → p (dec v) ≡ true) → held p (opt dec o) ≡ true
+held_of : {A : Type 0} (dec : List ℕ → A) (p : A → Bool) (o : Option (List ℕ)) → ((v : List ℕ) → o ≡ Some v → p (dec v) ≡ true) → held p (option_map dec o) ≡ true
 held_of dec p None h = refl
 held_of dec p (Some v) h = h v refl
 
-before_fits : {A : Type 0} (n : ℕ) (enc : A → List ℕ) (p : A → Bool) (o : Option A) (l : List Attribute) → held p o ≡ true → ((x : A) → p x ≡ true → fits (n, enc x) ≡ true) → list_all fits l ≡ true → list_all fits (put_before n (opt enc o) l) ≡ true
+before_fits : {A : Type 0} (n : ℕ) (enc : A → List ℕ) (p : A → Bool) (o : Option A) (l : List Attribute) → held p o ≡ true → ((x : A) → p x ≡ true → fits (n, enc x) ≡ true) → list_all fits l ≡ true → list_all fits (put_before n (option_map enc o) l) ≡ true
 before_fits n enc p None l t h k = k
 before_fits n enc p (Some x) l t h k = and_from _ _ (h x t) k
 
-opt_cond : {A B : Type 0} (f : A → B) (b : Bool) (x y : Option A) → opt f (cond b x y) ≡ cond b (opt f x) (opt f y)
+opt_cond : {A B : Type 0} (f : A → B) (b : Bool) (x y : Option A) → option_map f (cond b x y) ≡ cond b (option_map f x) (option_map f y)
 opt_cond f true x y = refl
 opt_cond f false x y = refl
 
-some_twice : {A : Type 0} (enc : A → List ℕ) (dec : List ℕ → A) (o : Option (List ℕ)) → is_some (opt enc (opt dec o)) ≡ is_some o
+some_twice : {A : Type 0} (enc : A → List ℕ) (dec : List ℕ → A) (o : Option (List ℕ)) → is_some (option_map enc (option_map dec o)) ≡ is_some o
 some_twice enc dec None = refl
 some_twice enc dec (Some v) = refl
 
@@ -197,18 +198,18 @@ attributes_again a e =
     let t = attributes_parts a e in
     let at : (k : ℕ) (w : ℕ × ℕ) → beside k widths ≡ Some w → beside k (present widths (λ n. value n a)) ≡ value k a = λ k w h. beside_present widths (λ n. value n a) k w widths_fall h in
     λ i. record {
-      endpoint_name = (ap (opt name_of) (at 3 (1, 32) refl) ∙ opt_back name_form name_of name_typed _ t.t3 (λ x p. refl)) i;
-      calling_party_number = (ap (opt telephone_of) (at 4 (20, 20) refl) ∙ opt_back (λ x. x.0) telephone_of telephone_typed _ t.t4 (λ x p. refl)) i;
-      called_party_number = (ap (opt telephone_of) (at 5 (20, 20) refl) ∙ opt_back (λ x. x.0) telephone_of telephone_typed _ t.t5 (λ x p. refl)) i;
-      termination_cause = (ap (opt cause_of) (at 11 (6, 6) refl) ∙ opt_back cause_form cause_of cause_typed _ t.t11 cause_again) i;
-      related_call = (ap (opt (bcid_at 0)) (at 13 (24, 24) refl) ∙ opt_back bcid_form (bcid_at 0) bcid_typed _ t.t13 bcid_again) i;
-      charge_number = (ap (opt telephone_of) (at 16 (20, 20) refl) ∙ opt_back (λ x. x.0) telephone_of telephone_typed _ t.t16 (λ x p. refl)) i;
-      routing_number = (ap (opt telephone_of) (at 25 (20, 20) refl) ∙ opt_back (λ x. x.0) telephone_of telephone_typed _ t.t25 (λ x p. refl)) i;
-      udp_port = (ap (opt (four_at 0)) (at 26 (4, 4) refl) ∙ opt_back four (four_at 0) (λ n. ltb n 4294967296) _ t.t26 four_again) i;
-      service_flow = (ap (opt (four_at 0)) (at 30 (4, 4) refl) ∙ opt_back four (four_at 0) (λ n. ltb n 4294967296) _ t.t30 four_again) i;
-      direction = (ap (opt (two_at 0)) (at 37 (2, 2) refl) ∙ opt_back two (two_at 0) (λ n. ltb n 65536) _ t.t37 two_again) i;
-      time_adjustment = (ap (opt adjustment_of) (at 38 (8, 8) refl) ∙ opt_back (λ x. x.0) adjustment_of adjustment_typed _ t.t38 (λ x p. refl)) i;
-      flow_direction = (ap (opt (two_at 0)) (at 50 (2, 2) refl) ∙ opt_back two (two_at 0) (λ n. ltb n 65536) _ t.t50 two_again) i;
+      endpoint_name = (ap (option_map name_of) (at 3 (1, 32) refl) ∙ opt_back name_form name_of name_typed _ t.t3 (λ x p. refl)) i;
+      calling_party_number = (ap (option_map telephone_of) (at 4 (20, 20) refl) ∙ opt_back (λ x. x.0) telephone_of telephone_typed _ t.t4 (λ x p. refl)) i;
+      called_party_number = (ap (option_map telephone_of) (at 5 (20, 20) refl) ∙ opt_back (λ x. x.0) telephone_of telephone_typed _ t.t5 (λ x p. refl)) i;
+      termination_cause = (ap (option_map cause_of) (at 11 (6, 6) refl) ∙ opt_back cause_form cause_of cause_typed _ t.t11 cause_again) i;
+      related_call = (ap (option_map (bcid_at 0)) (at 13 (24, 24) refl) ∙ opt_back bcid_form (bcid_at 0) bcid_typed _ t.t13 bcid_again) i;
+      charge_number = (ap (option_map telephone_of) (at 16 (20, 20) refl) ∙ opt_back (λ x. x.0) telephone_of telephone_typed _ t.t16 (λ x p. refl)) i;
+      routing_number = (ap (option_map telephone_of) (at 25 (20, 20) refl) ∙ opt_back (λ x. x.0) telephone_of telephone_typed _ t.t25 (λ x p. refl)) i;
+      udp_port = (ap (option_map (four_at 0)) (at 26 (4, 4) refl) ∙ opt_back four (four_at 0) (λ n. ltb n 4294967296) _ t.t26 four_again) i;
+      service_flow = (ap (option_map (four_at 0)) (at 30 (4, 4) refl) ∙ opt_back four (four_at 0) (λ n. ltb n 4294967296) _ t.t30 four_again) i;
+      direction = (ap (option_map (two_at 0)) (at 37 (2, 2) refl) ∙ opt_back two (two_at 0) (λ n. ltb n 65536) _ t.t37 two_again) i;
+      time_adjustment = (ap (option_map adjustment_of) (at 38 (8, 8) refl) ∙ opt_back (λ x. x.0) adjustment_of adjustment_typed _ t.t38 (λ x p. refl)) i;
+      flow_direction = (ap (option_map (two_at 0)) (at 50 (2, 2) refl) ∙ opt_back two (two_at 0) (λ n. ltb n 65536) _ t.t50 two_again) i;
     }
 
 -- attributes, read and written again

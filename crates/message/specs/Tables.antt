@@ -6,11 +6,6 @@ abbrev pub beside : {A : Type 0} → ℕ → List (ℕ × A) → Option A
 beside n [] = None
 beside n ((k, x) ∷ t) = cond (n == k) (Some x) (beside n t)
 
--- what is made of a value that is there
-abbrev pub opt : {A B : Type 0} → (A → B) → Option A → Option B
-opt f None = None
-opt f (Some x) = Some (f x)
-
 -- a test of a value, where it is there
 abbrev pub held : {A : Type 0} → (A → Bool) → Option A → Bool
 held p None = true

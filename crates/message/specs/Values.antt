@@ -9,7 +9,8 @@ use Rattle.message.specs.declared.attributes.TelephoneNumber.{TelephoneNumber}
 use Rattle.message.specs.declared.attributes.TerminationCause.{TerminationCause}
 use Rattle.message.specs.declared.attributes.TimeAdjustment.{TimeAdjustment}
 use Rattle.message.specs.declared.attributes.Attributes.{Attributes}
-use Rattle.message.specs.Tables.{beside, opt, held}
+use Rattle.message.specs.Tables.{beside, held}
+use Rattle.std.specs.Option.{option_map}
 use Rattle.message.specs.Headers.{bcid_form, bcid_at, bcid_typed}
 
 -- each number with its least and its greatest width in bytes, the highest number first
@@ -77,34 +78,34 @@ adjustment_typed x = length x.0 == 8
 -- the value of the attribute with a number
 abbrev pub value : ℕ → Attributes → Option (List ℕ)
 value n a =
-    cond (n == 50) (opt two a.flow_direction)
-    (cond (n == 38) (opt (λ x. x.0) a.time_adjustment)
-    (cond (n == 37) (opt two a.direction)
-    (cond (n == 30) (opt four a.service_flow)
-    (cond (n == 26) (opt four a.udp_port)
-    (cond (n == 25) (opt (λ x. x.0) a.routing_number)
-    (cond (n == 16) (opt (λ x. x.0) a.charge_number)
-    (cond (n == 13) (opt bcid_form a.related_call)
-    (cond (n == 11) (opt cause_form a.termination_cause)
-    (cond (n == 5) (opt (λ x. x.0) a.called_party_number)
-    (cond (n == 4) (opt (λ x. x.0) a.calling_party_number)
-    (cond (n == 3) (opt name_form a.endpoint_name) None)))))))))))
+    cond (n == 50) (option_map two a.flow_direction)
+    (cond (n == 38) (option_map (λ x. x.0) a.time_adjustment)
+    (cond (n == 37) (option_map two a.direction)
+    (cond (n == 30) (option_map four a.service_flow)
+    (cond (n == 26) (option_map four a.udp_port)
+    (cond (n == 25) (option_map (λ x. x.0) a.routing_number)
+    (cond (n == 16) (option_map (λ x. x.0) a.charge_number)
+    (cond (n == 13) (option_map bcid_form a.related_call)
+    (cond (n == 11) (option_map cause_form a.termination_cause)
+    (cond (n == 5) (option_map (λ x. x.0) a.called_party_number)
+    (cond (n == 4) (option_map (λ x. x.0) a.calling_party_number)
+    (cond (n == 3) (option_map name_form a.endpoint_name) None)))))))))))
 
 -- the attributes that some values make
 abbrev pub attributes_of : List Attribute → Attributes
 attributes_of l = record {
-  endpoint_name = opt name_of (beside 3 l);
-  calling_party_number = opt telephone_of (beside 4 l);
-  called_party_number = opt telephone_of (beside 5 l);
-  termination_cause = opt cause_of (beside 11 l);
-  related_call = opt (bcid_at 0) (beside 13 l);
-  charge_number = opt telephone_of (beside 16 l);
-  routing_number = opt telephone_of (beside 25 l);
-  udp_port = opt (four_at 0) (beside 26 l);
-  service_flow = opt (four_at 0) (beside 30 l);
-  direction = opt (two_at 0) (beside 37 l);
-  time_adjustment = opt adjustment_of (beside 38 l);
-  flow_direction = opt (two_at 0) (beside 50 l);
+  endpoint_name = option_map name_of (beside 3 l);
+  calling_party_number = option_map telephone_of (beside 4 l);
+  called_party_number = option_map telephone_of (beside 5 l);
+  termination_cause = option_map cause_of (beside 11 l);
+  related_call = option_map (bcid_at 0) (beside 13 l);
+  charge_number = option_map telephone_of (beside 16 l);
+  routing_number = option_map telephone_of (beside 25 l);
+  udp_port = option_map (four_at 0) (beside 26 l);
+  service_flow = option_map (four_at 0) (beside 30 l);
+  direction = option_map (two_at 0) (beside 37 l);
+  time_adjustment = option_map adjustment_of (beside 38 l);
+  flow_direction = option_map (two_at 0) (beside 50 l);
 }
 
 -- that the numbers fit their widths, and the texts have their lengths
