@@ -11,19 +11,19 @@ use std::fmt;
 /// What an attribute tells.
 #[derive(Clone, Copy, PartialEq, Eq, Debug)]
 pub enum AttributeKind {
-    Header,
-    EndpointName,
-    CallingPartyNumber,
-    CalledPartyNumber,
-    TerminationCause,
-    RelatedCall,
-    ChargeNumber,
-    RoutingNumber,
-    UdpPort,
-    ServiceFlow,
-    Direction,
-    TimeAdjustment,
-    FlowDirection,
+    Header = 1,
+    EndpointName = 3,
+    CallingPartyNumber = 4,
+    CalledPartyNumber = 5,
+    TerminationCause = 11,
+    RelatedCall = 13,
+    ChargeNumber = 16,
+    RoutingNumber = 25,
+    UdpPort = 26,
+    ServiceFlow = 30,
+    Direction = 37,
+    TimeAdjustment = 38,
+    FlowDirection = 50,
 }
 
 impl AttributeKind {
@@ -31,21 +31,7 @@ impl AttributeKind {
     pub fn number(self) -> u8
         ensures { result ≡ number_of self }
     {
-        match self {
-            AttributeKind::Header => 1,
-            AttributeKind::EndpointName => 3,
-            AttributeKind::CallingPartyNumber => 4,
-            AttributeKind::CalledPartyNumber => 5,
-            AttributeKind::TerminationCause => 11,
-            AttributeKind::RelatedCall => 13,
-            AttributeKind::ChargeNumber => 16,
-            AttributeKind::RoutingNumber => 25,
-            AttributeKind::UdpPort => 26,
-            AttributeKind::ServiceFlow => 30,
-            AttributeKind::Direction => 37,
-            AttributeKind::TimeAdjustment => 38,
-            AttributeKind::FlowDirection => 50,
-        }
+        self as u8
     }
 
     /// The greatest width of its value in bytes.

@@ -9,9 +9,9 @@ use std::fmt;
 /// What an element that sends messages is.
 #[derive(Clone, Copy, PartialEq, Eq, Debug)]
 pub enum ElementType {
-    CallManagementServer,
-    CableModemTerminationSystem,
-    MediaGatewayController,
+    CallManagementServer = 1,
+    CableModemTerminationSystem = 2,
+    MediaGatewayController = 3,
 }
 
 impl ElementType {
@@ -19,11 +19,7 @@ impl ElementType {
     pub fn number(self) -> u16
         ensures { result ≡ element_number self }
     {
-        match self {
-            ElementType::CallManagementServer => 1,
-            ElementType::CableModemTerminationSystem => 2,
-            ElementType::MediaGatewayController => 3,
-        }
+        self as u16
     }
 }
 

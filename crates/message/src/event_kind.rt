@@ -10,15 +10,15 @@ use std::fmt;
 /// A kind of event that the profile has.
 #[derive(Clone, Copy, PartialEq, Eq, Debug)]
 pub enum EventKind {
-    SignalingStart,
-    SignalingStop,
-    QosReserve,
-    QosRelease,
-    CallAnswer,
-    CallDisconnect,
-    TimeChange,
-    QosCommit,
-    MediaAlive,
+    SignalingStart = 1,
+    SignalingStop = 2,
+    QosReserve = 7,
+    QosRelease = 8,
+    CallAnswer = 15,
+    CallDisconnect = 16,
+    TimeChange = 17,
+    QosCommit = 19,
+    MediaAlive = 20,
 }
 
 impl EventKind {
@@ -26,17 +26,7 @@ impl EventKind {
     pub fn number(self) -> u16
         ensures { result ≡ event_number self }
     {
-        match self {
-            EventKind::SignalingStart => 1,
-            EventKind::SignalingStop => 2,
-            EventKind::QosReserve => 7,
-            EventKind::QosRelease => 8,
-            EventKind::CallAnswer => 15,
-            EventKind::CallDisconnect => 16,
-            EventKind::TimeChange => 17,
-            EventKind::QosCommit => 19,
-            EventKind::MediaAlive => 20,
-        }
+        self as u16
     }
 }
 

@@ -6,7 +6,7 @@ use Rattle.refusal.specs.declared.Fault.TheVariants.{MalformedAttribute}
 use Rattle.refusal.specs.declared.Fault.{Fault}
 use Rattle.reading.specs.declared.attribute.Attribute.{Attribute}
 use Rattle.reading.specs.declared.attribute.Attribute.TheVariants.{CableLabs, Other}
-use Rattle.reading.specs.Walks.{ended, wrong, cable, other, sorted, attribute_at, viewed, next_place, Onward, Behind}
+use Rattle.reading.specs.Walks.{ended, wrong, cable, other, sorted, attribute_at, viewed, next_place, Onward, end_of}
 
 or_false : (a b : Bool) → a ≡ false → b ≡ false → a || b ≡ false
 or_false true b h k = h
@@ -66,14 +66,10 @@ module _ (bytes : List ℕ) (at : ℕ) where
         ∙ (λ i. sorted at t (take (sym e i) (drop (at + 2) bytes)) (at + s) ((drop-drop (s - 2) (at + 2) bytes ∙ ap (λ z. drop z bytes) (sym f)) i)))
 
 -- what is known of the place behind an attribute
-pub same_view : (bytes : List ℕ) (q : ℕ) (r : Result (Option Attribute) Fault) → Behind q r → viewed (drop (next_place r) bytes) r ≡ viewed (drop q bytes) r
-same_view bytes q (Ok None) h = refl
-same_view bytes q (Ok (Some (CableLabs n v p k))) h = ap (λ z. cable n v.now p k (drop z bytes)) h
-same_view bytes q (Ok (Some (Other n v p k))) h = ap (λ z. other n v.now p k (drop z bytes)) h
-same_view bytes q (Err f) h = refl
+pub same_view : (bytes : List ℕ) (q : ℕ) (a : Attribute) → end_of a ≡ q → viewed (drop (next_place (Ok (Some a))) bytes) (Ok (Some a)) ≡ viewed (drop q bytes) (Ok (Some a))
+same_view bytes q (CableLabs n v p k) h = ap (λ z. cable n v.now p k (drop z bytes)) h
+same_view bytes q (Other n v p k) h = ap (λ z. other n v.now p k (drop z bytes)) h
 
-pub goes_on : (p n q : ℕ) (r : Result (Option Attribute) Fault) → Behind q r → p + 2 ≤ q → q ≤ n → Onward p n r
-goes_on p n q (Ok None) h k l = absurd h
-goes_on p n q (Ok (Some (CableLabs t v a m))) h k l = (omega arith, omega arith)
-goes_on p n q (Ok (Some (Other t v a m))) h k l = (omega arith, omega arith)
-goes_on p n q (Err f) h k l = tt
+pub goes_on : (p n q : ℕ) (a : Attribute) → end_of a ≡ q → p + 2 ≤ q → q ≤ n → Onward p n (Ok (Some a))
+goes_on p n q (CableLabs t v a m) h k l = (omega arith, omega arith)
+goes_on p n q (Other t v a m) h k l = (omega arith, omega arith)

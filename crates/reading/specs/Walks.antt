@@ -50,12 +50,10 @@ Onward p n (Ok (Some (CableLabs k v a q))) = (p + 2 ≤ q) × (q ≤ n)
 Onward p n (Ok (Some (Other t v a q))) = (p + 2 ≤ q) × (q ≤ n)
 Onward p n (Err f) = Unit {0}
 
--- an attribute, if there is one, has the place q behind it
-abbrev pub Behind : ℕ → Result (Option Attribute) Fault → Type 0
-Behind q (Ok None) = ⊥
-Behind q (Ok (Some (CableLabs k v a n))) = n ≡ q
-Behind q (Ok (Some (Other t v a n))) = n ≡ q
-Behind q (Err f) = Unit {0}
+-- an attribute that a call found
+abbrev pub found : Result Attribute Fault → Result (Option Attribute) Fault
+found (Ok a) = Ok (Some a)
+found (Err f) = Err f
 
 abbrev pub end_of : Attribute → ℕ
 end_of (CableLabs n v p q) = q

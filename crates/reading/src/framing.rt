@@ -3,7 +3,7 @@ ghost use Rattle.std.specs.Prelude.{◌≡◌, length};
 ghost use Rattle.forms.specs.declared.encoding.Encoding.{Encoding};
 ghost use Rattle.reading.specs.Tokens.{token_at, seen, Further};
 ghost use Rattle.reading.specs.Events.{value_in, start};
-ghost use Rattle.reading.specs.Readings.{left, or_empty, met_in};
+ghost use Rattle.reading.specs.Readings.{left, or_empty, last_number, met_in};
 ghost use Rattle.message.specs.Kinds.{number_of};
 
 use crate::cursor::Cursor;
@@ -29,7 +29,7 @@ pub trait Framing {
     fn value<'a>(kind: AttributeKind, body: &'a [u8]) -> Option<&'a [u8]>
         ensures { or_empty result ≡ value_in encoding (number_of kind) body.now };
 
-    /// Whether an attribute was met before, among those that were kept, of which the last had the number `last`.
-    fn is_met(kind: AttributeKind, last: u8, attributes: &Attributes) -> bool
-        ensures { result ≡ met_in encoding (number_of kind) last attributes.now };
+    /// Whether an attribute was met before, among those that were kept, of which `last` came last.
+    fn is_met(kind: AttributeKind, last: Option<AttributeKind>, attributes: &Attributes) -> bool
+        ensures { result ≡ met_in encoding (number_of kind) (last_number last) attributes.now };
 }

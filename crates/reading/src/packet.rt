@@ -53,7 +53,7 @@ impl Framing for VendorAttributes {
         Some(body)
     }
 
-    fn is_met(kind: AttributeKind, _last: u8, attributes: &Attributes) -> bool {
+    fn is_met(kind: AttributeKind, _last: Option<AttributeKind>, attributes: &Attributes) -> bool {
         attributes.has(kind)
     }
 }

@@ -1,7 +1,7 @@
 //! The walk over the attributes of a packet, one after another.
-ghost use Rattle.std.specs.Prelude.{◌≡◌, ℕ, min, List, length, drop};
+ghost use Rattle.std.specs.Prelude.{IfOk, ◌≡◌, ℕ, min, List, length, drop};
 ghost use Rattle.reading.specs.Readings.{left};
-ghost use Rattle.reading.specs.Walks.{attribute_at, vendor_in, viewed, next_place, Onward, Behind, end_of, gone};
+ghost use Rattle.reading.specs.Walks.{attribute_at, vendor_in, viewed, next_place, Onward, found, end_of, gone};
 
 use crate::attribute::Attribute;
 use crate::cursor::Cursor;
@@ -9,31 +9,31 @@ use refusal::Fault;
 use wire::FixedWidth;
 
 /// What stands behind type 26 and its length: a vendor, and for CableLabs a number, a length and a value that fill the rest.
-fn vendor<'a>(value: &'a [u8], at: usize, next: usize) -> Result<Option<Attribute<'a>>, Fault>
-    ensures read { (rest : List ℕ) → viewed rest result ≡ vendor_in at value.now next rest }
-    ensures next { Behind next result }
+fn vendor<'a>(value: &'a [u8], at: usize, next: usize) -> Result<Attribute<'a>, Fault>
+    ensures read { (rest : List ℕ) → viewed rest (found result) ≡ vendor_in at value.now next rest }
+    ensures next { IfOk result (λ a. end_of a ≡ next) }
 {
     let malformed = Fault::MalformedAttribute { at };
     if value.len() < 4 {
         return Err(malformed);
     }
     if u32::read(value, 0) != 4491 {
-        return Ok(Some(Attribute::Other {
+        return Ok(Attribute::Other {
             kind: 26,
             value,
             at,
             next,
-        }));
+        });
     }
     if value.len() < 6 || value[5] as usize != value.len() - 4 {
         return Err(malformed);
     }
-    Ok(Some(Attribute::CableLabs {
+    Ok(Attribute::CableLabs {
         number: value[4],
         value: &value[6..],
         at,
         next,
-    }))
+    })
 }
 
 /// The attribute that stands at a place.
@@ -57,7 +57,7 @@ pub(crate) fn attribute_at<'a>(from: Cursor<'a>) -> Result<Option<Attribute<'a>>
     }
     let value = &bytes[at + 2..at + size];
     if bytes[at] == 26 {
-        return vendor(value, at, at + size);
+        return Ok(Some(vendor(value, at, at + size)?));
     }
     Ok(Some(Attribute::Other {
         kind: bytes[at],

@@ -3,7 +3,7 @@ use Rattle.std.proofs.lemmas.Result.{err_from_is_err_and}
 use Rattle.message.specs.Kinds.{number_of}
 use Rattle.message.specs.Values.{fits}
 use Rattle.reading.specs.Events.{value_in}
-use Rattle.reading.specs.Readings.{met_in, or_empty}
+use Rattle.reading.specs.Readings.{last_number, met_in, or_empty}
 use Rattle.reading.proofs.Admitted.{is_unknown, is_header, is_unfit, is_repeated, is_fine, one_number, other_number, nothing_fits}
 use Rattle.reading.proofs.admission.admit.Goals as goal
 
@@ -56,7 +56,7 @@ returns-then-is_met g c =
     let m = sym c.is_met.ensures ∙ c.if-is_met.true in
     record {
       read = is_repeated g.F.Framing.encoding t.at t.number t.body.now _ e.1 (other_number k t.number e.0 c.in_default.not-Header) (subst (λ n. fits (n, value_in g.F.Framing.encoding n t.body.now) ≡ true) e.0 f)
-          (subst (λ n. met_in g.F.Framing.encoding n c.args.last c.args.attributes.now ≡ true) e.0 m);
+          (subst (λ n. met_in g.F.Framing.encoding n (last_number c.args.last) c.args.attributes.now ≡ true) e.0 m);
       kind = tt;
       fits = tt;
     }
@@ -72,7 +72,7 @@ returns g c =
     let m = sym c.is_met.ensures ∙ c.if-is_met.false in
     record {
       read = is_fine g.F.Framing.encoding t.at t.number t.body.now _ e.1 (other_number k t.number e.0 c.in_default.not-Header) c.in-Some.value.now (v ∙ ap (λ n. value_in g.F.Framing.encoding n t.body.now) e.0)
-          (subst (λ n. fits (n, value_in g.F.Framing.encoding n t.body.now) ≡ true) e.0 f) (subst (λ n. met_in g.F.Framing.encoding n c.args.last c.args.attributes.now ≡ false) e.0 m);
+          (subst (λ n. fits (n, value_in g.F.Framing.encoding n t.body.now) ≡ true) e.0 f) (subst (λ n. met_in g.F.Framing.encoding n (last_number c.args.last) c.args.attributes.now ≡ false) e.0 m);
       kind = e.0;
       fits = w;
     }
