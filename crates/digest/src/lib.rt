@@ -15,6 +15,7 @@ use padding::pad;
 use state::State;
 
 /// Writes the digest of `message` to `out`.
+// Lent memory and no result, by a rule of this project: whoever signs lends the sixteen bytes of the authenticator alone.
 pub fn digest(message: &[u8], out: &mut [u8; 16])
     ensures { out.new ≡ md5 message.now }
 {

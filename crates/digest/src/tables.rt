@@ -2,6 +2,8 @@
 ghost use Rattle.std.specs.Prelude.{◌≡◌, ◌<◌};
 ghost use Rattle.digest.specs.Operations.{sine_of, shift_of};
 
+// Two tables of 64, as RFC 1321 has them, by a rule of this project.
+
 /// What each operation adds: T[1] to T[64].
 const SINES: [u32; 64] = [
     0xd76aa478, 0xe8c7b756, 0x242070db, 0xc1bdceee, 0xf57c0faf, 0x4787c62a, 0xa8304613, 0xfd469501,

@@ -20,6 +20,7 @@ fn compare_forms(a: &Event, b: &Event) -> Ordering
 }
 
 /// By BCID, then by Event_Time, then by spool form, each by its bytes. The forms are made only where the rest ties.
+// BCIDs by their bytes, as the definition compares them: by a derived order of their fields the same would read no plainer.
 // Not an `impl Ord for Event`: `Event` belongs to a crate below, and its order needs the forms made here.
 #[tactic(auto, unfolding(crate::specs::Order::order))]
 pub fn compare(a: &Event, b: &Event) -> Ordering

@@ -6,6 +6,9 @@ use wire::Buffer;
 #[derive(Clone, Copy, PartialEq, Eq, Debug)]
 pub struct EndpointName(pub(crate) Buffer<32>);
 
+// Each field of bytes is a type of its own, and so are those of `fields`: one type with the width as its parameter would let a
+// telephone number be taken for a clock's adjustment.
+
 /// A number as dialled or billed, in text.
 #[derive(Clone, Copy, PartialEq, Eq, Debug)]
 pub struct TelephoneNumber(pub [u8; 20]);

@@ -2,6 +2,8 @@
 use fields::calendar::EventTime;
 use fields::texts::{ElementId, TimeZone};
 
+// Two types of one form, by a rule of this project: the one number never stands in for the other.
+
 /// Counts an element's calls.
 #[derive(Clone, Copy, PartialEq, Eq, Debug)]
 pub struct EventCounter(pub u32);

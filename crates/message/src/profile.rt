@@ -8,6 +8,7 @@ use crate::attributes::Attributes;
 use crate::event_kind::EventKind;
 use refusal::Fault;
 
+// `let Some(_) = .. else` for each attribute is a rule of this project: every refusal shows which one it asked for.
 /// That an event of a kind, whose header stands at `at`, has what it must have.
 pub(crate) fn has_mandatory(kind: EventKind, a: &Attributes, at: usize) -> Result<(), Fault>
     ensures { MatchResult result (λ _. complete (event_number kind) a.now ≡ true) (λ f. (complete (event_number kind) a.now ≡ false) × (f ≡ MandatoryMissing at)) }

@@ -25,6 +25,8 @@ impl FixedWidth<6> for TerminationCause {
     }
 }
 
+// Two impls of one form: one over `[u8; N]` would have every caller take the bytes out of their types.
+
 impl FixedWidth<20> for TelephoneNumber {
     ghost form = { λ x. x.0 };
 

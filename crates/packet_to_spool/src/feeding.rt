@@ -18,7 +18,8 @@ pub struct Reading {
     pub ending: Result<(), Fault>,
 }
 
-/// Asks a feed until it ends.
+/// Asks a feed until it ends. A loop, as wherever a feed is asked: it is no iterator, and each caller does another thing with an
+/// event.
 pub fn read_all<F: Feed>(heap: Global, feed: &mut F) -> Result<Reading, AllocError> {
     let mut met = Vec::new(heap);
     let ending = loop {

@@ -46,6 +46,7 @@ struct Decoder {
     /// The first digit of a byte, until the second is there.
     high: Option<u8>,
     line: u64,
+    /// Two states with no value beside them.
     in_comment: bool,
 }
 

@@ -2,6 +2,7 @@
 use refusal::{Fault, Told};
 use std::fmt;
 
+// `worked_cases` tells a refusal in other words, from the same `told`.
 #[derive(Clone, Copy)]
 pub struct Refused(pub Fault);
 

@@ -1,7 +1,7 @@
 //! An event in words.
 use crate::feeding::Met;
 use crate::text::{Quoted, Text};
-use crate::values::{Adjustment, Call, Cause, Direction, Flow, Moment};
+use crate::values::{Adjustment, Call, Cause, Moment, Named};
 use message::attribute_kind::AttributeKind;
 use message::attributes::{Attributes, EndpointName, TelephoneNumber};
 use message::event::Event;
@@ -97,11 +97,21 @@ fn show_values(rt: &HostRuntime, a: &Attributes) -> io::Result<()> {
     show_telephone(rt, AttributeKind::RoutingNumber, &a.routing_number)?;
     show_value(rt, AttributeKind::UdpPort, a.udp_port)?;
     show_value(rt, AttributeKind::ServiceFlow, a.service_flow)?;
-    show_value(rt, AttributeKind::Direction, a.direction.map(Direction))?;
+    show_value(
+        rt,
+        AttributeKind::Direction,
+        a.direction
+            .map(|n| Named(n, ["originating", "terminating"])),
+    )?;
     show_value(
         rt,
         AttributeKind::TimeAdjustment,
         a.time_adjustment.map(Adjustment),
     )?;
-    show_value(rt, AttributeKind::FlowDirection, a.flow_direction.map(Flow))
+    show_value(
+        rt,
+        AttributeKind::FlowDirection,
+        a.flow_direction
+            .map(|n| Named(n, ["upstream", "downstream"])),
+    )
 }

@@ -69,34 +69,18 @@ impl fmt::Display for Adjustment {
     }
 }
 
-/// A Direction_indicator, of any value.
+/// A number of any value, of which 1 and 2 have a name.
 #[derive(Clone, Copy)]
-pub struct Direction(pub u16);
+pub struct Named(pub u16, pub [&'static str; 2]);
 
-impl fmt::Display for Direction {
+impl fmt::Display for Named {
     fn fmt<W: fmt::Write>(&self, f: &mut fmt::Formatter<W>) -> fmt::Result {
-        let direction = self.0;
-        let name = match direction {
-            1 => "originating",
-            2 => "terminating",
+        let Named(number, [first, second]) = *self;
+        let name = match number {
+            1 => first,
+            2 => second,
             _ => "undefined",
         };
-        write!(f, "{direction} ({name})")
-    }
-}
-
-/// A Flow_Direction, of any value.
-#[derive(Clone, Copy)]
-pub struct Flow(pub u16);
-
-impl fmt::Display for Flow {
-    fn fmt<W: fmt::Write>(&self, f: &mut fmt::Formatter<W>) -> fmt::Result {
-        let direction = self.0;
-        let name = match direction {
-            1 => "upstream",
-            2 => "downstream",
-            _ => "undefined",
-        };
-        write!(f, "{direction} ({name})")
+        write!(f, "{number} ({name})")
     }
 }

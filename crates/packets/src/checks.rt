@@ -18,7 +18,7 @@ impl<'a> TakenUp<'a> {
         if bytes[0] != 4 {
             return Err(Fault::PacketCode);
         }
-        let length = u16::read(bytes, 2) as usize;
+        let length = usize::from(u16::read(bytes, 2));
         if length < 20 || bytes.len() < length {
             return Err(Fault::PacketLength);
         }

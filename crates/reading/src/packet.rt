@@ -24,7 +24,8 @@ impl Framing for VendorAttributes {
         20
     }
 
-    // The first CableLabs attribute; all others are skipped.
+    // The first CableLabs attribute; all others are skipped. The place is carried, and no `Walk`: what is read is stated of the
+    // bytes that were given, which a walk's would have to be shown to be.
     fn token<'a>(from: Cursor<'a>) -> Result<Option<Token<'a>>, Fault> {
         let bytes = from.bytes;
         let mut place = from.place;

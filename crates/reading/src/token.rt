@@ -11,6 +11,7 @@ use refusal::Fault;
 pub struct Token<'a> {
     /// The place of its first byte.
     pub at: usize,
+    /// A byte and no kind: it is looked at later, and an unknown one is refused then.
     pub number: u8,
     pub body: &'a [u8],
     /// The place behind it.

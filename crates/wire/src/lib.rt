@@ -9,7 +9,7 @@ ghost use Rattle.std.specs.Prelude.{◌≡◌, ◌+◌, ◌≤◌, length, take,
 pub use buffer::Buffer;
 pub use fixed_width::FixedWidth;
 
-/// The N bytes from `at` on.
+/// The N bytes from `at` on. A slice and a place, for the reason that `FixedWidth` gives.
 pub fn part<const N: usize>(bytes: &[u8], at: usize) -> [u8; N]
     requires { at + N ≤ length bytes.now }
     ensures len { length result ≡ N }

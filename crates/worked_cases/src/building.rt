@@ -28,6 +28,7 @@ pub fn push(
     requires { length value.now ≤ 76 }
 {
     let number = kind.number();
+    // Two cases of three lines; a closure for each would only move them to the callers.
     match encoding {
         Encoding::Spool => out.push(number)?,
         Encoding::Packet => {

@@ -2,6 +2,7 @@
 use refusal::{Fault, Told};
 use std::fmt;
 
+// `packet_to_spool` tells a refusal in other words, from the same `told`.
 #[derive(Clone, Copy)]
 pub struct Refused(pub Fault);
 
