@@ -1,11 +1,12 @@
 -- Attributes in any order, and events by their forms.
-use Rattle.std.proofs.Common.{◌≡◌, ℕ, ◌+◌, Bool, true, false, cond, not, List, [], ◌∷◌, ◌++◌, length, is_some, Some, None, Ok, Err, Option, Result, Ordering, Less, Equal, Greater, sym, refl, ap, ◌∙◌, ⊎_elim, arith}
+use Rattle.std.proofs.Common.{◌≡◌, ℕ, ◌+◌, Bool, true, false, cond, not, List, [], ◌∷◌, ◌++◌, length, is_some, Some, None, Ok, Err, Result, Ordering, Less, Equal, Greater, sym, refl, ap, ◌∙◌, ⊎_elim}
 use Rattle.std.specs.List.{list_all}
-use Rattle.std.proofs.lemmas.Bool.{eq-eqb, ne_eqb, and_parts, and_from, cond-true, cond-false, cases_eq}
+use Rattle.std.proofs.lemmas.Bool.{not-true, eq-eqb, ne_eqb, and_parts, and_from, cond-true, cond-false, cases_eq}
 use Rattle.std.specs.Cmp.Lexicographic.{slice_cmp, nat_list_cmp_total}
 use Rattle.std.specs.Ordering.{ordering_then, ordering_reverse, nat_cmp}
 use Rattle.std.proofs.lemmas.Map.Lookups.{exact_bytes}
 use Rattle.wire.specs.Octets.{two_at, four_at}
+use Rattle.wire.proofs.Absurd.{impossible}
 use Rattle.refusal.specs.declared.Fault.{Fault}
 use Rattle.refusal.specs.declared.Fault.TheVariants.{UnknownKind, HeaderForm, MandatoryMissing}
 use Rattle.message.specs.declared.event.Event.{Event}
@@ -22,6 +23,7 @@ use Rattle.forms.specs.Forms.{form}
 use Rattle.forms.specs.Order.{order}
 use Rattle.reading.specs.Events.{came, event_at}
 use Rattle.reading.specs.Laws.{apart, AnyOrder, FormTells, OrderTells, moved, CheckAlone}
+use Rattle.reading.proofs.Gathers.{absent}
 use Rattle.reading.proofs.Again.{read_any, form_read}
 use Rattle.reading.proofs.Meanings.{from_came}
 
@@ -32,20 +34,14 @@ form_tells e f h =
 
 -- the order ends with the forms
 last_ties : (k t : Ordering) → ordering_then k t ≡ Equal → t ≡ Equal
-last_ties Less t h = absurd (never h)
-  where
-    never : Less ≡ Equal → ⊥
-    never e = let z : ◌≡◌ {A = ℕ} 0 1 = cc in omega arith
+last_ties Less t h = impossible cc
 last_ties Equal t h = h
-last_ties Greater t h = absurd (never h)
-  where
-    never : Greater ≡ Equal → ⊥
-    never e = let z : ◌≡◌ {A = ℕ} 0 1 = cc in omega arith
+last_ties Greater t h = impossible cc
 
 unreversed : (r : Ordering) → r ≡ ordering_reverse r → r ≡ Equal
-unreversed Less e = let z : ◌≡◌ {A = ℕ} 0 1 = cc in let y : ⊥ = omega arith in absurd y
+unreversed Less e = impossible cc
 unreversed Equal e = refl
-unreversed Greater e = let z : ◌≡◌ {A = ℕ} 0 1 = cc in let y : ⊥ = omega arith in absurd y
+unreversed Greater e = impossible cc
 
 lex_itself : (x : List ℕ) → slice_cmp nat_cmp x x ≡ Equal
 lex_itself x = unreversed (slice_cmp nat_cmp x x) (nat_list_cmp_total.antisymm x x)
@@ -58,16 +54,12 @@ order_tells = record {
       ∙ ap (λ k. ordering_then k (slice_cmp nat_cmp (form e) (form e))) (lex_itself e.header.event_time.0) ∙ lex_itself (form e);
 }
 
-absent : (o : Option (List ℕ)) → not (is_some o) ≡ true → o ≡ None
-absent None h = refl
-absent (Some v) h = let z : ◌≡◌ {A = ℕ} 0 1 = cc in let y : ⊥ = omega arith in absurd y
-
 all_fit : (m : List Attribute) → apart m ≡ true → ((n : ℕ) (v : List ℕ) → beside n m ≡ Some v → fits (n, v) ≡ true) → list_all fits m ≡ true
 all_fit [] a h = refl
 all_fit ((k, u) ∷ m) a h =
     let p = and_parts (not (is_some (beside k m))) (apart m) a in
     and_from _ _ (h k u (cond-true _ _ _ (eq-eqb k k refl)))
-    (all_fit m p.1 (λ n v e. ⊎_elim (λ i. let x : None ≡ Some v = sym (absent (beside k m) p.0) ∙ ap (λ z. beside z m) (sym i) ∙ e in let z : ◌≡◌ {A = ℕ} 0 1 = cc in let y : ⊥ = omega arith in absurd y)
+    (all_fit m p.1 (λ n v e. ⊎_elim (λ i. let x : None ≡ Some v = sym (absent (beside k m) (not-true _ p.0)) ∙ ap (λ z. beside z m) (sym i) ∙ e in impossible cc)
     (λ d. h n v (cond-false _ _ _ (ne_eqb n k d) ∙ e)) (cases_eq n k)))
 
 same_attributes : (m l : List Attribute) → ((n : ℕ) → beside n m ≡ beside n l) → attributes_of m ≡ attributes_of l

@@ -6,21 +6,25 @@ ghost use Rattle.reading.specs.Laws.{FormTells, OrderTells, AnyOrder, CheckAlone
 ghost use Rattle.laws.specs.Worked.{Worked};
 
 /// Two events with the same spool form are the same.
+#[tactic(auto, using(crate::proofs::Orders::form_tells))]
 pub fn form_tells()
     ensures { FormTells }
 {}
 
 /// The order of events tells any two apart.
+#[tactic(auto, using(crate::proofs::Orders::order_tells))]
 pub fn order_tells()
     ensures { OrderTells }
 {}
 
 /// The order of a packet's counted attributes does not matter to the event.
+#[tactic(auto, using(crate::proofs::Orders::any_order))]
 pub fn any_order()
     ensures { AnyOrder }
 {}
 
 /// The check of an event looks at nothing but the event.
+#[tactic(auto, using(crate::proofs::Orders::check_alone))]
 pub fn check_alone()
     ensures { CheckAlone }
 {}
@@ -31,6 +35,7 @@ pub fn lengths()
 {}
 
 /// The worked cases.
+#[tactic(auto, using(crate::proofs::Cases::worked))]
 pub fn worked()
     ensures { Worked }
 {}

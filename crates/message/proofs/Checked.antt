@@ -1,7 +1,8 @@
 -- The rules that an event meets, one by one, and the check of them.
-use Rattle.std.proofs.Common.{◌≡◌, ℕ, Bool, true, false, eqb, length, Ok, Err, sym, refl, ap, ◌∙◌, arith}
+use Rattle.std.proofs.Common.{◌≡◌, ℕ, Bool, true, false, eqb, length, Ok, Err, sym, refl, ap, ◌∙◌}
 use mathlib.Core.Bool.{Bool-set}
 use Rattle.std.proofs.lemmas.Bool.{eq-eqb, eqb-true, and_parts, and_from, and_right, cond-true}
+use Rattle.wire.proofs.Absurd.{impossible}
 use Rattle.refusal.specs.declared.Fault.TheVariants.{MandatoryMissing}
 use Rattle.fields.specs.Texts.{spaced, zone}
 use Rattle.fields.specs.Calendar.{timed}
@@ -58,10 +59,10 @@ element_told e =
 
 pub tested_true : {A : Type 0} (b : Bool) (f : b ≡ true → A) (x : A) (h : b ≡ true) → tested b f x ≡ f h
 tested_true true f x h = ap f (Bool-set true true _ h)
-tested_true false f x h = let z : ◌≡◌ {A = ℕ} 0 1 = cc in let y : ⊥ = omega arith in absurd y
+tested_true false f x h = impossible cc
 
 pub tested_false : {A : Type 0} (b : Bool) (f : b ≡ true → A) (x : A) → b ≡ false → tested b f x ≡ x
-tested_false true f x h = let z : ◌≡◌ {A = ℕ} 0 1 = cc in let y : ⊥ = omega arith in absurd y
+tested_false true f x h = impossible cc
 tested_false false f x h = refl
 
 pub checked_event : (p : ℕ) (h : Header) (a : Attributes) (ok : sound h a ≡ true) → checked p h a ≡ Ok (event_of h a ok)

@@ -2,6 +2,7 @@
 use Rattle.std.proofs.Common.{◌≡◌, ℕ, ◌<◌, ◌≤◌, Bool, true, false, ◌&&◌, eqb, ltb, List, [], ◌∷◌, Some, None, Option, sym, refl, ◌∙◌, subst, ⊎_elim, arith}
 use Rattle.std.specs.List.{list_all}
 use Rattle.std.proofs.lemmas.Bool.{eq-eqb, ne_eqb, ltb-true, lt-ltb, and_parts, and_from, cond-true, cond-false, cases_eq}
+use Rattle.wire.proofs.Absurd.{impossible}
 use Rattle.message.specs.declared.attributes.Attributes.{Attributes}
 use Rattle.message.specs.Tables.{beside}
 use Rattle.message.specs.Values.{Attribute, widths, value, put_before, present, others, last}
@@ -69,7 +70,7 @@ listed_again h (keep {n = n} {v = v} {t = t} {l = l} s) =
 
 -- one more, above those that are there
 below_known : (t : Table) (n x : ℕ) (w : ℕ × ℕ) → below x t ≡ true → beside n t ≡ Some w → n < x
-below_known [] n x w h e = let z : ◌≡◌ {A = ℕ} 0 1 = cc in let y : ⊥ = omega arith in absurd y
+below_known [] n x w h e = impossible cc
 below_known ((m, u) ∷ t) n x w h e =
     let p = and_parts (ltb m x) (below x t) h in
     ⊎_elim (λ i. let l = ltb-true m x p.0 in omega arith)
@@ -84,7 +85,7 @@ add_under n m w v g h f (skip s) = skip (f s)
 add_under n m w v g h f (keep s) = never m n h (omega arith)
 
 pub add : (t : Table) (l : List Attribute) (n : ℕ) (u : ℕ × ℕ) (v : List ℕ) → falling t ≡ true → beside n t ≡ Some u → last l < n → Sub t l → Sub t ((n, v) ∷ l)
-add [] l n u v f e h s = let z : ◌≡◌ {A = ℕ} 0 1 = cc in let y : ⊥ = omega arith in absurd y
+add [] l n u v f e h s = impossible cc
 add ((m, w) ∷ t) l n u v f e h s =
     let p = and_parts (ltb 0 m) (below m t && falling t) f in
     let q = and_parts (below m t) (falling t) p.1 in
@@ -137,7 +138,7 @@ beside_here n None l h = h
 beside_here n (Some v) l h = cond-true _ _ _ (eq-eqb n n refl)
 
 pub beside_present : (t : Table) (f : ℕ → Option (List ℕ)) (k : ℕ) (w : ℕ × ℕ) → falling t ≡ true → beside k t ≡ Some w → beside k (present t f) ≡ f k
-beside_present [] f k w h e = let z : ◌≡◌ {A = ℕ} 0 1 = cc in let y : ⊥ = omega arith in absurd y
+beside_present [] f k w h e = impossible cc
 beside_present ((n, u) ∷ t) f k w h e =
     let p = and_parts (ltb 0 n) (below n t && falling t) h in
     let q = and_parts (below n t) (falling t) p.1 in

@@ -4,6 +4,7 @@ use Rattle.std.specs.List.{list_all}
 use Rattle.std.proofs.lemmas.List.{take_all, take_at, drop_at}
 use Rattle.std.proofs.lemmas.Bool.{eq-eqb, ne_eqb, eqb-true, leb-true, le-leb, ltb-true, lt-ltb, and_parts, and_from, cond-true, cond-false, cases_eq}
 use Rattle.wire.specs.Octets.{Octets, two, four, two_at, four_at, part_of}
+use Rattle.wire.proofs.Absurd.{impossible}
 use Rattle.wire.proofs.Chains.{join}
 use Rattle.wire.proofs.Numbers.{two_long, four_long, two_small, four_small, two_of, four_of, two_back, four_back}
 use Rattle.message.specs.declared.header.Bcid.{Bcid}
@@ -53,7 +54,7 @@ wide : (a k : ℕ) → k ≡ a → leb a k && leb k a ≡ true
 wide a k e = and_from _ _ (le-leb a k (omega arith)) (le-leb k a (omega arith))
 
 pub found_fits : (l : List Attribute) (m : ℕ) (v : List ℕ) → list_all fits l ≡ true → beside m l ≡ Some v → fits (m, v) ≡ true
-found_fits [] m v f e = let z : ◌≡◌ {A = ℕ} 0 1 = cc in let y : ⊥ = omega arith in absurd y
+found_fits [] m v f e = impossible cc
 found_fits ((n, u) ∷ l) m v f e =
     let q = and_parts (fits (n, u)) (list_all fits l) f in
     ⊎_elim (λ i. let k : Some u ≡ Some v = sym (cond-true _ _ _ (eq-eqb m n i)) ∙ e in let j : u ≡ v = cc in (λ t. fits (i t, sym j t)) ∙ q.0)
@@ -277,7 +278,7 @@ Each P [] = Unit {0}
 Each P ((n, w) ∷ t) = P n × Each P t
 
 pub each_beside : (P : ℕ → Type 0) (t : Table) (n : ℕ) (w : ℕ × ℕ) → Each P t → beside n t ≡ Some w → P n
-each_beside P [] n w h e = let z : ◌≡◌ {A = ℕ} 0 1 = cc in let y : ⊥ = omega arith in absurd y
+each_beside P [] n w h e = impossible cc
 each_beside P ((m, u) ∷ t) n w h e =
     ⊎_elim (λ i. subst P (sym i) h.0) (λ d. each_beside P t n w h.1 (sym (cond-false _ _ _ (ne_eqb n m d)) ∙ e)) (cases_eq n m)
 

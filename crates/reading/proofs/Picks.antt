@@ -1,5 +1,6 @@
 -- One step of the search for a CableLabs attribute.
 use Rattle.std.proofs.Common.{◌≡◌, ℕ, zero, suc, ◌+◌, ◌-◌, ◌<◌, ◌≤◌, List, drop, Some, None, Ok, Option, sym, ap, ◌∙◌, subst, arith, Bor}
+use Rattle.wire.proofs.Absurd.{impossible}
 use Rattle.refusal.specs.declared.Fault.{Fault}
 use Rattle.reading.specs.declared.attribute.Attribute.{Attribute}
 use Rattle.reading.specs.declared.attribute.Attribute.TheVariants.{CableLabs, Other}
@@ -20,7 +21,7 @@ module _ (bytes : List ℕ) (p k : ℕ) (w : Seen) (h : 0 < k) (g : pick k p (dr
 
   pub ends : (o : Option Attribute) (n : ℕ) → o ≡ None → viewed (drop (next_place (Ok o)) bytes) (Ok o) ≡ attribute_at p (drop p bytes) → Onward p n (Ok o) → none n ≡ w
   ends None n i e f = ap none (sym f) ∙ on ended e
-  ends (Some a) n i e f = let z : ◌≡◌ {A = ℕ} 0 1 = cc in let y : ⊥ = omega arith in absurd y
+  ends (Some a) n i e f = impossible cc
 
   module _ (o : Option Attribute) (a : Attribute) (i : o ≡ Some a) (e : viewed (drop (next_place (Ok o)) bytes) (Ok o) ≡ attribute_at p (drop p bytes)) where
     seen_as : viewed (drop (next_place (Ok (Some a))) bytes) (Ok (Some a)) ≡ attribute_at p (drop p bytes)

@@ -1,17 +1,13 @@
 -- Attributes that are not CableLabs ones are skipped.
-use Rattle.std.proofs.Common.{◌≡◌, ℕ, zero, suc, ◌+◌, ◌-◌, ◌<◌, ◌≤◌, Bool, true, false, ◌||◌, eqb, List, ◌∷◌, ◌++◌, length, take, drop, refl, ap, ◌∙◌, arith, length-append}
+use Rattle.std.proofs.Common.{◌≡◌, ℕ, zero, suc, ◌+◌, ◌-◌, ◌<◌, ◌≤◌, false, eqb, List, ◌∷◌, ◌++◌, length, take, drop, refl, ap, ◌∙◌, arith, length-append}
 use Rattle.std.proofs.lemmas.List.{take_at, drop_at}
-use Rattle.std.proofs.lemmas.Bool.{le-ltb, cond-false}
+use Rattle.std.proofs.lemmas.Bool.{or_from, le-ltb, cond-false}
 use Rattle.forms.specs.declared.encoding.Encoding.TheVariants.{Packet}
 use Rattle.reading.specs.Walks as W
 use Rattle.reading.specs.Walks.{Walked, ended, cable, other, sorted, attribute_at}
 use Rattle.reading.specs.Tokens.{Seen, picked, pick, token_at}
 use Rattle.reading.specs.Events.{headed, event_at}
 use Rattle.reading.proofs.Sizes.{walked_size, attribute_size}
-
-neither : (a c : Bool) → a ≡ false → c ≡ false → a || c ≡ false
-neither true c e f = e
-neither false c e f = f
 
 walked : (p t : ℕ) (v rest : List ℕ) → eqb t 26 ≡ false → attribute_at p (t ∷ (2 + length v) ∷ (v ++ rest)) ≡ other t v p (p + (2 + length v)) rest
 unfolding attribute_at
@@ -21,7 +17,7 @@ walked p t v rest d =
     let h : 2 ≤ s = omega arith in
     let l : s ≤ 2 + length bs = omega (arith, length-append v rest) in
     let m : s - 2 ≡ length v = omega arith in
-    cond-false _ _ _ (neither _ _ (le-ltb s 2 h) (le-ltb (2 + length bs) s l))
+    cond-false _ _ _ (or_from _ _ (le-ltb s 2 h) (le-ltb (2 + length bs) s l))
     ∙ cond-false _ _ _ d
     ∙ (λ i. other t (take (m i) bs) p (p + s) (drop (m i) bs))
     ∙ (λ i. other t (take_at v rest (length v) refl i) p (p + s) (drop_at v rest (length v) refl i))

@@ -1,24 +1,12 @@
 -- The attribute at a place of some bytes.
-use Rattle.std.proofs.Common.{◌≡◌, ℕ, ◌+◌, ◌-◌, ◌<◌, ◌≤◌, Bool, true, false, cond, ◌||◌, ltb, List, ◌∷◌, length, get_or, take, drop, Some, None, Ok, Err, Option, Result, sym, refl, ap, ◌∙◌, add_assoc, arith, length-drop}
+use Rattle.std.proofs.Common.{◌≡◌, ℕ, ◌+◌, ◌-◌, ◌<◌, ◌≤◌, cond, ◌||◌, ltb, List, ◌∷◌, length, get_or, take, drop, Some, None, Ok, Err, Option, Result, sym, refl, ap, ◌∙◌, add_assoc, arith, length-drop}
 use Rattle.std.proofs.lemmas.List.{drop_more, drop_all, drop-drop}
-use Rattle.std.proofs.lemmas.Bool.{lt-ltb, le-ltb, cond-true, cond-false}
+use Rattle.std.proofs.lemmas.Bool.{or_from, or_left, or_right, lt-ltb, le-ltb, cond-true, cond-false}
 use Rattle.refusal.specs.declared.Fault.TheVariants.{MalformedAttribute}
 use Rattle.refusal.specs.declared.Fault.{Fault}
 use Rattle.reading.specs.declared.attribute.Attribute.{Attribute}
 use Rattle.reading.specs.declared.attribute.Attribute.TheVariants.{CableLabs, Other}
 use Rattle.reading.specs.Walks.{ended, wrong, cable, other, sorted, attribute_at, viewed, next_place, Onward, end_of}
-
-or_false : (a b : Bool) → a ≡ false → b ≡ false → a || b ≡ false
-or_false true b h k = h
-or_false false b h k = k
-
-or_left : (a b : Bool) → a ≡ true → a || b ≡ true
-or_left true b h = refl
-or_left false b h = let z : ◌≡◌ {A = ℕ} 0 1 = cc in let y : ⊥ = omega arith in absurd y
-
-or_right : (a b : Bool) → b ≡ true → a || b ≡ true
-or_right true b h = refl
-or_right false b h = h
 
 module _ (bytes : List ℕ) (at : ℕ) where
   pub at_end : length bytes ≤ at → ended ≡ attribute_at at (drop at bytes)
@@ -62,7 +50,7 @@ module _ (bytes : List ℕ) (at : ℕ) where
         let m : s ≤ 2 + length (drop (at + 2) bytes) = omega (arith, length-drop (at + 2) bytes) in
         let e : at + s - (at + 2) ≡ s - 2 = omega arith in
         let f : at + s ≡ at + 2 + (s - 2) = omega arith in
-        sym (opened ∙ cond-false _ _ _ (or_false _ _ (le-ltb s 2 k) (le-ltb _ s m))
+        sym (opened ∙ cond-false _ _ _ (or_from _ _ (le-ltb s 2 k) (le-ltb _ s m))
         ∙ (λ i. sorted at t (take (sym e i) (drop (at + 2) bytes)) (at + s) ((drop-drop (s - 2) (at + 2) bytes ∙ ap (λ z. drop z bytes) (sym f)) i)))
 
 -- what is known of the place behind an attribute

@@ -1,2 +1,3 @@
+pub mod Absurd
 pub mod Chains
 pub mod Numbers
