@@ -7,6 +7,8 @@ use crate::clock::Clock;
 use crate::date::Date;
 use crate::digits::{digit, is_digits, pair};
 
+// Its own type around bytes, for the reason that stands beside `ElementId`.
+
 /// A date and a time of day, yyyymmddhhmmss.mmm.
 #[derive(Clone, Copy, PartialEq, Eq, PartialOrd, Ord, Debug)]
 pub struct EventTime(pub [u8; 18]);

@@ -5,6 +5,9 @@ ghost use Rattle.fields.specs.Texts.{spaced, zone};
 use crate::clock::Clock;
 use crate::digits::is_digits;
 
+// Two types of eight bytes, and no one type with the width as its parameter: each has a form of its own, and the one could be
+// taken for the other.
+
 /// The element that sent a message: spaces, then digits, eight bytes in all.
 #[derive(Clone, Copy, PartialEq, Eq, PartialOrd, Ord, Debug)]
 pub struct ElementId(pub [u8; 8]);

@@ -28,7 +28,8 @@ pub fn push(
     requires { length value.now ≤ 76 }
 {
     let number = kind.number();
-    // Two cases of three lines; a closure for each would only move them to the callers.
+    // Two cases of three lines; a closure for each would only move them to the callers. That a value has at most 76 bytes is asked of
+    // the callers too: a type for such a slice would be made and taken apart at every call.
     match encoding {
         Encoding::Spool => out.push(number)?,
         Encoding::Packet => {
