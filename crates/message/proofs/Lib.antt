@@ -1,3 +1,4 @@
+pub mod Names
 pub mod Checked
 pub mod Wires
 pub mod Listings

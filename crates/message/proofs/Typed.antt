@@ -1,7 +1,8 @@
 -- Attributes as values and as bytes: what is written is read again, and what is read is written again.
-use Rattle.std.proofs.Common.{◌≡◌, ℕ, zero, suc, ◌≤◌, Bool, true, false, cond, ◌&&◌, eqb, ltb, leb, List, [], ◌∷◌, ◌++◌, length, take, replicate, is_some, Some, None, Option, sym, refl, ap, ◌∙◌, subst, ⊎_elim, arith, length-append}
+use Rattle.std.proofs.Common.{◌≡◌, ℕ, zero, suc, ◌-◌, ◌≤◌, Bool, true, false, cond, ◌&&◌, eqb, ltb, leb, List, [], ◌∷◌, ◌++◌, length, take, drop, replicate, is_some, Some, None, Option, sym, refl, ap, ◌∙◌, subst, ⊎_elim, arith, length-append, length-drop}
+use lib.ListN.{length-replicate}
 use Rattle.std.specs.List.{list_all}
-use Rattle.std.proofs.lemmas.List.{take_all, take_at, drop_at}
+use Rattle.std.proofs.lemmas.List.{take_all, take_at, drop_at, take-append-drop, length-take-le}
 use Rattle.std.proofs.lemmas.Bool.{eq-eqb, ne_eqb, eqb-true, leb-true, le-leb, ltb-true, lt-ltb, and_parts, and_from, cond-true, cond-false, cases_eq}
 use Rattle.wire.specs.Octets.{Octets, two, four, two_at, four_at, part_of}
 use Rattle.wire.proofs.Absurd.{impossible}
@@ -73,11 +74,44 @@ zeros_are (b ∷ bs) h =
 
 name_of_typed : (v : List ℕ) → leb 1 (length v) && leb (length v) 32 ≡ true → name_typed (name_of v) ≡ true
 unfolding name_typed
-name_of_typed v e = e
+name_of_typed v e =
+    let p = between 1 32 (length v) e in
+    let x = p.1 in
+    let z : List ℕ = replicate (32 - length v) 0 in
+    let n : length (v ++ z) ≡ 32 = omega (arith, length-append v z, length-replicate {A = ℕ} (32 - length v) 0) in
+    and_from _ _ (and_from _ _ e (eq-eqb _ _ n)) (ap zeros (drop_at v z (length v) refl) ∙ zeros_replicate (32 - length v))
+
+pub record NameTyped (x : EndpointName) : Type 0 where
+  pub least : 1 ≤ x.«length»
+  pub most : x.«length» ≤ 32
+  pub long : length x.text ≡ 32
+  pub clean : zeros (drop x.«length» x.text) ≡ true
+
+pub name_parts : (x : EndpointName) → name_typed x ≡ true → NameTyped x
+unfolding name_typed
+name_parts x e =
+    let p3 = and_parts _ (zeros (drop x.«length» x.text)) e in
+    let p2 = and_parts _ (eqb (length x.text) 32) p3.0 in
+    let p1 = between 1 32 x.«length» p2.0 in
+    record { least = p1.0; most = p1.1; long = eqb-true _ _ p2.1; clean = p3.1 }
+
+name_long : (x : EndpointName) → NameTyped x → length (name_form x) ≡ x.«length»
+name_long x t = let a = t.most in let b = t.long in let h : x.«length» ≤ length x.text = omega arith in length-take-le _ _ h
+
+name_again : (x : EndpointName) → name_typed x ≡ true → name_of (name_form x) ≡ x
+name_again x e =
+    let t = name_parts x e in
+    let n = name_long x t in
+    let l : length (drop x.«length» x.text) ≡ 32 - x.«length» = length-drop x.«length» x.text ∙ ap (λ k. k - x.«length») t.long in
+    let d : replicate (32 - length (name_form x)) 0 ≡ drop x.«length» x.text = ap (λ k. replicate (32 - k) 0) n ∙ ap (λ k. replicate k 0) (sym l) ∙ sym (zeros_are (drop x.«length» x.text) t.clean) in
+    λ i. record { «length» = n i; text = (ap (λ z. name_form x ++ z) d ∙ take-append-drop x.«length» x.text) i }
 
 name_fits : (x : EndpointName) → name_typed x ≡ true → fits (3, name_form x) ≡ true
-unfolding name_typed
-name_fits x e = e
+name_fits x e =
+    let t = name_parts x e in
+    let n = name_long x t in
+    let a = t.least in let b = t.most in
+    and_from _ _ (le-leb 1 (length (name_form x)) (omega arith)) (le-leb (length (name_form x)) 32 (omega arith))
 
 -- causes
 cause_of_typed : (v : List ℕ) → cause_typed (cause_of v) ≡ true
@@ -124,6 +158,9 @@ module _ (v : List ℕ) (o : Octets v) where
 
   bcid_formed_24 : length v ≡ 24 → bcid_form (bcid_at 0 v) ≡ v
   bcid_formed_24 n = bcid_formed v 0 (omega arith) o ∙ take_all 24 v (omega arith)
+
+name_formed : (v : List ℕ) → name_form (name_of v) ≡ v
+name_formed v = take_at v _ (length v) refl
 
 -- what is read has the right widths
 pub attributes_of_typed : (l : List Attribute) → list_all fits l ≡ true → attributes_typed (attributes_of l) ≡ true
@@ -199,7 +236,7 @@ attributes_again a e =
     let t = attributes_parts a e in
     let at : (k : ℕ) (w : ℕ × ℕ) → beside k widths ≡ Some w → beside k (present widths (λ n. value n a)) ≡ value k a = λ k w h. beside_present widths (λ n. value n a) k w widths_fall h in
     λ i. record {
-      endpoint_name = (ap (option_map name_of) (at 3 (1, 32) refl) ∙ opt_back name_form name_of name_typed _ t.t3 (λ x p. refl)) i;
+      endpoint_name = (ap (option_map name_of) (at 3 (1, 32) refl) ∙ opt_back name_form name_of name_typed _ t.t3 name_again) i;
       calling_party_number = (ap (option_map telephone_of) (at 4 (20, 20) refl) ∙ opt_back (λ x. x.0) telephone_of telephone_typed _ t.t4 (λ x p. refl)) i;
       called_party_number = (ap (option_map telephone_of) (at 5 (20, 20) refl) ∙ opt_back (λ x. x.0) telephone_of telephone_typed _ t.t5 (λ x p. refl)) i;
       termination_cause = (ap (option_map cause_of) (at 11 (6, 6) refl) ∙ opt_back cause_form cause_of cause_typed _ t.t11 cause_again) i;
@@ -229,7 +266,7 @@ others_of l f o =
     (put_before 11 (opt_round cause_form cause_of (beside 11 l) (λ v e. cause_formed v (o 11 v e) (exactly 6 _ (found_fits l 11 v f e))) i)
     (put_before 5 (opt_round (λ x. x.0) telephone_of (beside 5 l) (λ v e. refl) i)
     (put_before 4 (opt_round (λ x. x.0) telephone_of (beside 4 l) (λ v e. refl) i)
-    (put_before 3 (opt_round name_form name_of (beside 3 l) (λ v e. refl) i) [])))))))))))
+    (put_before 3 (opt_round name_form name_of (beside 3 l) (λ v e. name_formed v) i) [])))))))))))
 
 -- how many are there
 abbrev tally : Table → (ℕ → Bool) → ℕ

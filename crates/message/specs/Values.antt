@@ -1,5 +1,5 @@
 -- The attributes besides the header: their numbers, their widths, and their values in bytes, both ways.
-use Rattle.std.specs.Prelude.{ℕ, ◌+◌, ◌*◌, Bool, false, cond, ◌&&◌, List, [], ◌∷◌, ◌++◌, length, ℤ, Some, None, Option, ◌==◌, nat_eq, nat_le, nat_lt, slice_index}
+use Rattle.std.specs.Prelude.{ℕ, ◌+◌, ◌-◌, ◌*◌, Bool, false, cond, ◌&&◌, List, [], ◌∷◌, ◌++◌, length, take, drop, replicate, ℤ, Some, None, Option, ◌==◌, nat_eq, nat_le, nat_lt, slice_index}
 use Rattle.std.specs.List.{list_all}
 use Rattle.std.proofs.Common.{to_z}
 use Rattle.std.specs.Int.{w64}
@@ -31,18 +31,18 @@ Attribute = ℕ × List ℕ
 abbrev pub fits : Attribute → Bool
 fits (n, v) = within (length v) (beside n widths)
 
--- what pads a name in a spool
+-- a name: its length, and 32 bytes with zeros behind it
 abbrev pub zeros : List ℕ → Bool
 zeros bs = list_all (λ b. nat_eq b 0) bs
 
 abbrev pub name_form : EndpointName → List ℕ
-name_form x = x.0
+name_form x = take x.«length» x.text
 
 abbrev pub name_of : List ℕ → EndpointName
-name_of v = record { 0 = v }
+name_of v = record { «length» = length v; text = v ++ replicate (32 - length v) 0 }
 
 unfoldable pub name_typed : EndpointName → Bool
-name_typed x = nat_le 1 (length x.0) && nat_le (length x.0) 32
+name_typed x = nat_le 1 x.«length» && nat_le x.«length» 32 && length x.text == 32 && zeros (drop x.«length» x.text)
 
 abbrev pub telephone_of : List ℕ → TelephoneNumber
 telephone_of v = record { 0 = v }

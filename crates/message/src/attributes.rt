@@ -1,10 +1,14 @@
 //! The attributes of an event besides its header.
 use crate::header::Bcid;
-use wire::Buffer;
 
-/// A name of 1 to 32 bytes.
+/// A name of 1 to 32 bytes; the bytes behind it are zeros.
+// Its own array and length, and no `Buffer`: a value that holds one, with its `impl Model`, can't be passed twice, though it is
+// `Copy`, and an event holds a name.
 #[derive(Clone, Copy, PartialEq, Eq, Debug)]
-pub struct EndpointName(pub(crate) Buffer<32>);
+pub struct EndpointName {
+    pub length: u8,
+    pub text: [u8; 32],
+}
 
 // Each field of bytes is a type of its own, and so are those of `fields`: one type with the width as its parameter would let a
 // telephone number be taken for a clock's adjustment.

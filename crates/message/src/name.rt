@@ -3,7 +3,6 @@ ghost use Rattle.std.specs.Prelude.{◌≡◌, ◌≤◌, ◌&&◌, length, is_s
 ghost use Rattle.message.specs.Values.{name_of, name_form};
 
 use crate::attributes::EndpointName;
-use wire::Buffer;
 
 impl EndpointName {
     /// The name in some bytes, if there are 1 to 32 of them.
@@ -22,15 +21,24 @@ impl EndpointName {
         requires { length bytes.now ≤ 32 }
         ensures { result ≡ name_of bytes.now }
     {
-        let mut name = Buffer::new();
-        name.push(bytes);
-        EndpointName(name)
+        let length = bytes.len();
+        let mut text = [0; 32];
+        text[0..length].copy_from_slice(bytes);
+        EndpointName {
+            length: length as u8,
+            text,
+        }
     }
 
+    /// The name without the zeros behind it.
     pub fn as_bytes(&self) -> &[u8]
         ensures value { result.now ≡ name_form self.now }
         ensures short { length result.now ≤ 32 }
     {
-        self.0.as_bytes()
+        let length = self.length as usize;
+        if length < 32 {
+            return &self.text[0..length];
+        }
+        &self.text
     }
 }

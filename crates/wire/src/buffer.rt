@@ -55,12 +55,20 @@ impl<const N: usize> Buffer<N> {
         &bytes[..self.len]
     }
 
+    /// The memory: the bytes, and zeros behind them.
+    pub fn into_memory(self) -> [u8; N]
+        ensures filled { Filled N (length self.entry) result }
+        ensures bytes { take (length self.entry) result ≡ self.entry }
+    {
+        self.bytes
+    }
+
     /// The bytes, of which there are N.
     pub fn into_array(self) -> [u8; N]
         requires { length self ≡ N }
         ensures len { length result ≡ N }
         ensures bytes { result ≡ self.entry }
     {
-        self.bytes
+        self.into_memory()
     }
 }
