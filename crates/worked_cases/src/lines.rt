@@ -30,7 +30,11 @@ impl From<AllocError> for LineError {
     }
 }
 
+// Judged before memory is made: a line that is none takes none, however long it is.
 fn decode(heap: Global, digits: &str) -> Result<Vec<u8>, LineError> {
+    if !digits.bytes().all(|b| b.is_ascii_hexdigit()) {
+        return Err(LineError::Unreadable);
+    }
     let mut bytes = Vec::new(heap);
     bytes.resize(digits.len() / 2, 0)?;
     hex::decode_to_slice(digits, &mut bytes)?;

@@ -37,8 +37,8 @@ fn show_in_packet<const N: usize>(rt: &HostRuntime) -> io::Result<()>
     requires { N ≤ 76 }
 {
     let heap = rt.alloc();
-    let attributes = start_with(heap, Encoding::Packet, &[b'n'; N])?;
     println!(rt; "A packet with a name of {N} bytes")?;
+    let attributes = start_with(heap, Encoding::Packet, &[b'n'; N])?;
     show_packet(rt, &packet_of(heap, &attributes)?)
 }
 
