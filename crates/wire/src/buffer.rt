@@ -6,7 +6,8 @@ use std::marker::Model;
 
 /// At most N bytes, one after another. Contracts see their list; the memory behind them is kept zero, so that two of them
 /// are equal exactly when their bytes are.
-// The one place with a length beside memory: no heap is allowed here, and the kit's `ArrayVec` is no `Copy`, as an event is.
+// Its own array and length: no heap is allowed here, and the kit's `ArrayVec` is no `Copy`, as a buffer is. A form and a name, which
+// go by value, hold no buffer, for the reason that stands beside them.
 #[derive(Clone, Copy, PartialEq, Eq, Debug)]
 pub struct Buffer<const N: usize> {
     bytes: [u8; N],
